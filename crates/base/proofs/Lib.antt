@@ -1,0 +1,9 @@
+pub mod Tests
+pub mod Lists
+pub mod Counts
+pub mod Ranges
+pub mod Sums
+pub mod Segments
+pub mod Cuts
+pub mod Answers
+pub mod Texts

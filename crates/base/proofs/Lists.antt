@@ -1,0 +1,174 @@
+-- Laws of all elements of a list, of the first that passes a test, of equal lists, and of images. Assumes nothing.
+use mathlib.Core.Path.{_≡_, refl, sym, ap, ap₂, _∙_}
+use mathlib.Core.Bool.{Bool, true, false, cond, _&&_, not, false≢true}
+use mathlib.Core.Logic.{_↔_}
+use mathlib.Core.List.{List, [], _∷_, _++_, map}
+use Prim.Native.Nat.{ℕ, zero, suc, _+_, _≤_, _<_, min}
+use native.Mathlib.Numerals.{add-one}
+use native.Mathlib.Omega.{arith}
+use borrow.Author.Tests.{eq-eqb, eqb-true}
+use lib.Dec.{eqb}
+use lib.ListN.{length, take, drop, getD, length-take, length-drop}
+use lib.Seq.{getD-take, getD-drop, ext-getD}
+use Rattle.base.specs.Lists.{All, Below, allPass, firstWhere, filterBy, same}
+use Rattle.base.proofs.Tests.{and-left, and-right, and-true, false-of}
+
+-- ---- all elements
+
+module _ {ℓ} {A : Type ℓ} where
+  -- an element that is there has P
+  pub all-at : (P : A → Type 0) (xs : List A) (d : A) (i : ℕ) → All P xs → i < length xs → P (getD xs i d)
+  all-at P [] d i a h = absurd (omega arith)
+  all-at P (x ∷ xs) d zero a h = a .0
+  all-at P (x ∷ xs) d (suc i) a h = all-at P xs d i (a .1) (omega arith)
+
+  -- if each element that is there has P, all have
+  pub all-of-at : (P : A → Type 0) (xs : List A) (d : A) → ((i : ℕ) → i < length xs → P (getD xs i d)) → All P xs
+  all-of-at P [] d f = tt
+  all-of-at P (x ∷ xs) d f = (f zero (omega arith), all-of-at P xs d (λ i h. f (suc i) (omega arith)))
+
+  -- what P implies holds of all elements if P does
+  pub all-imp : (P Q : A → Type 0) → ((x : A) → P x → Q x) → (xs : List A) → All P xs → All Q xs
+  all-imp P Q f [] a = tt
+  all-imp P Q f (x ∷ xs) a = (f x (a .0), all-imp P Q f xs (a .1))
+
+  -- all elements of two lists are those of each
+  pub all-append : (P : A → Type 0) (xs ys : List A) → All P xs → All P ys → All P (xs ++ ys)
+  all-append P [] ys a b = b
+  all-append P (x ∷ xs) ys a b = (a .0, all-append P xs ys (a .1) b)
+
+  pub all-front : (P : A → Type 0) (xs ys : List A) → All P (xs ++ ys) → All P xs
+  all-front P [] ys a = tt
+  all-front P (x ∷ xs) ys a = (a .0, all-front P xs ys (a .1))
+
+  pub all-back : (P : A → Type 0) (xs ys : List A) → All P (xs ++ ys) → All P ys
+  all-back P [] ys a = a
+  all-back P (x ∷ xs) ys a = all-back P xs ys (a .1)
+
+  -- of a front of a list, and of what is left behind it
+  pub all-take : (P : A → Type 0) (n : ℕ) (xs : List A) → All P xs → All P (take n xs)
+  all-take P zero xs a = tt
+  all-take P (suc n) [] a = tt
+  all-take P (suc n) (x ∷ xs) a = (a .0, all-take P n xs (a .1))
+
+  pub all-drop : (P : A → Type 0) (n : ℕ) (xs : List A) → All P xs → All P (drop n xs)
+  all-drop P zero xs a = a
+  all-drop P (suc n) [] a = tt
+  all-drop P (suc n) (x ∷ xs) a = all-drop P n xs (a .1)
+
+  -- every element passes a test exactly if all have that it holds
+  pub all-of-pass : (test : A → Bool) (xs : List A) → allPass test xs ≡ true → All (λ (x : A). test x ≡ true) xs
+  all-of-pass test [] e = tt
+  all-of-pass test (x ∷ xs) e = (and-left (test x) (allPass test xs) e, all-of-pass test xs (and-right (test x) (allPass test xs) e))
+
+  pub pass-of-all : (test : A → Bool) (xs : List A) → All (λ (x : A). test x ≡ true) xs → allPass test xs ≡ true
+  pass-of-all test [] a = refl
+  pass-of-all test (x ∷ xs) a = and-true (test x) (allPass test xs) (a .0) (pass-of-all test xs (a .1))
+
+-- Q holds of all images if it holds of the image of each element that has P
+pub all-map {ℓ ℓ′} : {A : Type ℓ} {B : Type ℓ′} (P : A → Type 0) (Q : B → Type 0) (f : A → B) → ((x : A) → P x → Q (f x)) → (xs : List A) → All P xs → All Q (map f xs)
+all-map P Q f h [] a = tt
+all-map P Q f h (x ∷ xs) a = (h x (a .0), all-map P Q f h xs (a .1))
+
+-- a lower bound serves where a higher one does
+pub below-weaken : (a b : ℕ) (xs : List ℕ) → a ≤ b → Below a xs → Below b xs
+below-weaken a b xs h = all-imp (λ (x : ℕ). x < a) (λ (x : ℕ). x < b) (λ x l. omega arith) xs
+
+-- ---- the first that passes a test
+
+module _ {ℓ} {A : Type ℓ} (test : A → Bool) where
+  -- the first element that passes stands where it passes and none before it does
+  pub first-where-at : (xs : List A) (d : A) (i : ℕ) → i < length xs → ((j : ℕ) → j < i → test (getD xs j d) ≡ false) → test (getD xs i d) ≡ true → firstWhere test xs ≡ i
+  first-where-at [] d i h n e = absurd (omega arith)
+  first-where-at (x ∷ xs) d zero h n e = rw e
+  first-where-at (x ∷ xs) d (suc i) h n e =
+      let no : test x ≡ false = n 0 (omega arith) in
+      rw no (ap suc (first-where-at xs d i (omega arith) (λ j l. n (suc j) (omega arith)) e))
+
+  -- where none passes, the length
+  pub first-where-none : (xs : List A) (d : A) → ((j : ℕ) → j < length xs → test (getD xs j d) ≡ false) → firstWhere test xs ≡ length xs
+  first-where-none [] d n = refl
+  first-where-none (x ∷ xs) d n =
+      let no : test x ≡ false = n 0 (omega arith) in
+      rw no (ap suc (first-where-none xs d (λ j l. n (suc j) (omega arith))))
+
+  -- the first that passes is inside exactly if one does not fail
+  pub first-where-inside : (other : A → Bool) → ((x : A) → test x ≡ not (other x)) → (xs : List A) → allPass other xs ≡ false → firstWhere test xs < length xs
+  first-where-inside other h [] e = absurd (false≢true (sym e))
+  first-where-inside other h (x ∷ xs) e = go (first-where-inside other h xs) (other x) refl e
+    where
+      go : (allPass other xs ≡ false → firstWhere test xs < length xs) → (t : Bool) → other x ≡ t → t && allPass other xs ≡ false
+          → cond (test x) 0 (suc (firstWhere test xs)) < suc (length xs)
+      go ih true q e = rw (h x, q) (omega (arith, ih e))
+      go ih false q e = rw (h x, q) (omega arith)
+
+  pub first-where-length : (other : A → Bool) → ((x : A) → test x ≡ not (other x)) → (xs : List A) → allPass other xs ≡ true → firstWhere test xs ≡ length xs
+  first-where-length other h [] e = refl
+  first-where-length other h (x ∷ xs) e =
+      rw (h x, and-left (other x) (allPass other xs) e) (ap suc (first-where-length other h xs (and-right (other x) (allPass other xs) e)))
+
+-- ---- equal lists
+
+-- the element at x of each list more
+same-suc : (xs ys : List ℕ) (x : ℕ) → x < length xs → x < length ys → same (take x xs) (take x ys) && eqb (getD xs x 0) (getD ys x 0) ≡ same (take (suc x) xs) (take (suc x) ys)
+same-suc [] ys x h l = absurd (omega arith)
+same-suc (a ∷ xs) [] x h l = absurd (omega arith)
+same-suc (a ∷ xs) (b ∷ ys) zero h l = by (eqb a b)
+  where
+    by : (t : Bool) → true && t ≡ t && true
+    by true = refl
+    by false = refl
+same-suc (a ∷ xs) (b ∷ ys) (suc x) h l = by (eqb a b) (same-suc xs ys x (omega arith) (omega arith))
+  where
+    by : (t : Bool) → same (take x xs) (take x ys) && eqb (getD xs x 0) (getD ys x 0) ≡ same (take (suc x) xs) (take (suc x) ys)
+        → (t && same (take x xs) (take x ys)) && eqb (getD xs x 0) (getD ys x 0) ≡ t && same (take (suc x) xs) (take (suc x) ys)
+    by true e = e
+    by false e = refl
+
+-- one element more of a part of a list that is compared with another list from its start
+pub same-more : (xs : List ℕ) (at : ℕ) (ys : List ℕ) (x : ℕ) → at + x < length xs → x < length ys
+    → same (take x (drop at xs)) (take x ys) && eqb (getD xs (at + x) 0) (getD ys x 0) ≡ same (take (x + 1) (drop at xs)) (take (x + 1) ys)
+same-more xs at ys x h l = rw (add-one, ← getD-drop at xs x 0) (same-suc (drop at xs) ys x (rw length-drop (omega arith)) l)
+
+-- the test of two lists holds exactly if they are equal
+pub same-yes : (xs ys : List ℕ) → xs ≡ ys → same xs ys ≡ true
+same-yes xs ys e = rw e (reflexive ys)
+  where
+    reflexive : (xs : List ℕ) → same xs xs ≡ true
+    reflexive [] = refl
+    reflexive (x ∷ xs) = rw (eq-eqb x x refl, reflexive xs)
+
+pub same-true : (xs ys : List ℕ) → same xs ys ≡ true → xs ≡ ys
+same-true [] [] e = refl
+same-true [] (y ∷ ys) e = absurd (false≢true e)
+same-true (x ∷ xs) [] e = absurd (false≢true e)
+same-true (x ∷ xs) (y ∷ ys) e =
+    ap₂ {C = List ℕ} (λ (h : ℕ) (t : List ℕ). h ∷ t) (eqb-true x y (and-left (eqb x y) (same xs ys) e)) (same-true xs ys (and-right (eqb x y) (same xs ys) e))
+
+pub same-no : (xs ys : List ℕ) → (xs ≡ ys → ⊥) → same xs ys ≡ false
+same-no xs ys n = false-of (same xs ys) (λ e. n (same-true xs ys e))
+
+pub same-false : (xs ys : List ℕ) → same xs ys ≡ false → xs ≡ ys → ⊥
+same-false xs ys e q = false≢true (sym e ∙ same-yes xs ys q)
+
+-- ---- images and parts
+
+-- the image at a position that is there
+pub getD-map {ℓ ℓ′} : {A : Type ℓ} {B : Type ℓ′} (f : A → B) (xs : List A) (i : ℕ) (d : B) (d′ : A) → i < length xs → getD (map f xs) i d ≡ f (getD xs i d′)
+getD-map f [] i d d′ h = absurd (omega arith)
+getD-map f (x ∷ xs) zero d d′ h = refl
+getD-map f (x ∷ xs) (suc i) d d′ h = getD-map f xs i d d′ (omega arith)
+
+-- images of images
+pub map-map {ℓ κ μ} : {A : Type ℓ} {B : Type κ} {C : Type μ} (f : B → C) (g : A → B) (xs : List A) → map f (map g xs) ≡ map (λ (x : A). f (g x)) xs
+map-map f g [] = refl
+map-map {C = C} f g (x ∷ xs) = ap (λ (r : List C). f (g x) ∷ r) (map-map f g xs)
+
+-- images by two functions that agree on all elements that have P
+pub map-all {ℓ κ} : {A : Type ℓ} {B : Type κ} (P : A → Type 0) (f g : A → B) → ((x : A) → P x → f x ≡ g x) → (xs : List A) → All P xs → map f xs ≡ map g xs
+map-all P f g h [] a = refl
+map-all {B = B} P f g h (x ∷ xs) a = ap₂ {C = List B} (λ (y : B) (r : List B). y ∷ r) (h x (a .0)) (map-all P f g h xs (a .1))
+
+-- the part of a list from s that ends after n elements or where the list ends
+pub part-to-end : (xs : List ℕ) (s n stop : ℕ) → s ≤ length xs → stop ≡ min (s + n) (length xs) → s + length (take n (drop s xs)) ≡ stop
+part-to-end xs s n stop h e = omega (arith, length-take n (drop s xs), length-drop s xs)

@@ -1,0 +1,61 @@
+-- Laws of lists laid end to end, and of the segments of a list. Assumes nothing.
+use mathlib.Core.Path.{_≡_, refl, sym, ap, ap₂, _∙_}
+use mathlib.Core.List.{List, [], _∷_, _++_, map, flatten, append-assoc}
+use Prim.Native.Nat.{ℕ, zero, suc, _+_, _≤_, _<_}
+use native.Mathlib.Omega.{arith}
+use lib.ListN.{length, take, drop, getD, length-append, length-drop, take-append-drop}
+use lib.Seq.{take-append-seam, drop-append-seam, drop-drop, getD-take, getD-drop, length-take-le}
+use Rattle.base.specs.Lists.{All, total, segments}
+use Rattle.base.proofs.Lists.{all-append}
+
+-- ---- lists laid end to end
+
+pub flatten-append : (xs ys : List (List ℕ)) → flatten (xs ++ ys) ≡ flatten xs ++ flatten ys
+unfolding flatten
+flatten-append [] ys = refl
+flatten-append (x ∷ xs) ys = ap (λ (r : List ℕ). x ++ r) (flatten-append xs ys) ∙ sym (append-assoc x (flatten xs) (flatten ys))
+
+pub length-flatten : (xs : List (List ℕ)) → length (flatten xs) ≡ total (map length xs)
+unfolding flatten
+length-flatten [] = refl
+length-flatten (x ∷ xs) = length-append x (flatten xs) ∙ ap (λ (n : ℕ). length x + n) (length-flatten xs)
+
+-- what holds of all elements of each list holds of all elements of the lists laid end to end
+pub all-flatten : (P : ℕ → Type 0) (xs : List (List ℕ)) → All (All P) xs → All P (flatten xs)
+unfolding flatten
+all-flatten P [] a = tt
+all-flatten P (x ∷ xs) a = all-append P x (flatten xs) (a .0) (all-flatten P xs (a .1))
+
+-- ---- segments
+
+-- lists laid end to end are cut apart again by their lengths
+pub segments-flatten : (xs : List (List ℕ)) → segments (map length xs) (flatten xs) ≡ xs
+unfolding flatten
+segments-flatten [] = refl
+segments-flatten (x ∷ xs) =
+    ap₂ (λ (a : List ℕ) (r : List (List ℕ)). a ∷ r) (take-append-seam x (flatten xs)) (ap (segments (map length xs)) (drop-append-seam x (flatten xs)) ∙ segments-flatten xs)
+
+-- segments whose lengths make up the whole are the whole again
+pub flatten-segments : (ns xs : List ℕ) → total ns ≡ length xs → flatten (segments ns xs) ≡ xs
+unfolding flatten
+flatten-segments [] [] h = refl
+flatten-segments [] (x ∷ xs) h = absurd (omega arith)
+flatten-segments (n ∷ ns) xs h =
+    ap (λ (r : List ℕ). take n xs ++ r) (flatten-segments ns (drop n xs) (omega (arith, length-drop n xs))) ∙ take-append-drop n xs
+
+-- and have the lengths
+pub length-segments : (ns xs : List ℕ) → total ns ≤ length xs → map length (segments ns xs) ≡ ns
+length-segments [] xs h = refl
+length-segments (n ∷ ns) xs h =
+    ap₂ (λ (a : ℕ) (r : List ℕ). a ∷ r) (length-take-le n xs (omega arith)) (length-segments ns (drop n xs) (omega (arith, length-drop n xs)))
+
+-- segment k begins where the segments before it end; past the last it is empty
+pub segment-at : (ns xs : List ℕ) (k : ℕ) → getD (segments ns xs) k [] ≡ take (getD ns k 0) (drop (total (take k ns)) xs)
+segment-at [] xs k = refl
+segment-at (n ∷ ns) xs zero = refl
+segment-at (n ∷ ns) xs (suc k) = segment-at ns (drop n xs) k ∙ ap (take (getD ns k 0)) (drop-drop (total (take k ns)) n xs)
+
+-- element i of segment k stands i further
+pub segment-element : (ns xs : List ℕ) (k i : ℕ) → i < getD ns k 0 → getD (getD (segments ns xs) k []) i 0 ≡ getD xs (total (take k ns) + i) 0
+segment-element ns xs k i h =
+    ap (λ (x : List ℕ). getD x i 0) (segment-at ns xs k) ∙ getD-take (getD ns k 0) (drop (total (take k ns)) xs) i 0 h ∙ getD-drop (total (take k ns)) xs i 0
