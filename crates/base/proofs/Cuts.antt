@@ -1,10 +1,10 @@
 -- Laws of a list that is cut after each element that passes a test. Assumes nothing.
-use mathlib.Core.Path.{_≡_, refl, sym, ap, _∙_}
+use mathlib.Core.Path.{_≡_, refl, ap}
 use mathlib.Core.Bool.{Bool, true, false, cond}
-use mathlib.Core.List.{List, [], _∷_, _++_, flatten}
-use Prim.Native.Nat.{ℕ, suc}
-use lib.ListN.{length}
-use Rattle.base.specs.Lists.{All, filterBy, consFirst, cutAfter}
+use mathlib.Core.List.{List, [], _∷_, flatten}
+use Prim.Native.Nat.{ℕ}
+use lib.ListN.{getD}
+use Rattle.base.specs.Lists.{All, consFirst, cutAfter}
 
 module _ (test : ℕ → Bool) where
   -- the pieces laid end to end are the list
@@ -18,12 +18,36 @@ module _ (test : ℕ → Bool) where
       go false [] e = ap (λ (r : List ℕ). x ∷ r) e
       go false (p ∷ ps) e = ap (λ (r : List ℕ). x ∷ r) e
 
-  -- a front that ends in the only element that passes is a piece
-  pub cut-front : (p : List ℕ) (x : ℕ) (xs : List ℕ) → All (λ (y : ℕ). test y ≡ false) p → test x ≡ true → cutAfter test ((p ++ (x ∷ [])) ++ xs) ≡ (p ++ (x ∷ [])) ∷ cutAfter test xs
-  cut-front [] x xs a e = rw e
-  cut-front (y ∷ p) x xs a e = rw (a .0, cut-front p x xs (a .1) e)
+  -- no element but the last passes
+  abbrev pub Inner : List ℕ → Type 0
+  Inner [] = Unit {0}
+  Inner (x ∷ []) = Unit {0}
+  Inner (x ∷ y ∷ ys) = (test x ≡ false) × Inner (y ∷ ys)
 
-  -- a list that ends before any element passes is one piece
-  pub cut-open : (y : ℕ) (ys : List ℕ) → All (λ (y : ℕ). test y ≡ false) (y ∷ ys) → cutAfter test (y ∷ ys) ≡ (y ∷ ys) ∷ []
-  cut-open y [] a = rw (a .0)
-  cut-open y (z ∷ zs) a = rw (a .0, cut-open z zs (a .1))
+  -- in each piece, no element but the last passes
+  pub cut-inner : (xs : List ℕ) → All Inner (cutAfter test xs)
+  cut-inner [] = tt
+  cut-inner (x ∷ xs) = go (test x) refl (cutAfter test xs) (cut-inner xs)
+    where
+      go : (t : Bool) → test x ≡ t → (ps : List (List ℕ)) → All Inner ps → All Inner (cond t ((x ∷ []) ∷ ps) (consFirst x ps))
+      go true e ps a = (tt, a)
+      go false e [] a = (tt, tt)
+      go false e ([] ∷ ps) a = (tt, a .1)
+      go false e ((y ∷ ys) ∷ ps) a = ((e, a .0), a .1)
+
+  -- the first piece, which is empty where the list is
+  unfoldable pub firstPiece : List ℕ → List ℕ
+  firstPiece xs = getD (cutAfter test xs) 0 []
+
+  -- it goes on until an element passes
+  pub first-piece-last : (x : ℕ) (xs : List ℕ) → test x ≡ true → firstPiece (x ∷ xs) ≡ x ∷ []
+  unfolding firstPiece
+  first-piece-last x xs e = rw e
+
+  pub first-piece-more : (x : ℕ) (xs : List ℕ) → test x ≡ false → firstPiece (x ∷ xs) ≡ x ∷ firstPiece xs
+  unfolding firstPiece
+  first-piece-more x xs e = rw e (go (cutAfter test xs))
+    where
+      go : (ps : List (List ℕ)) → getD (consFirst x ps) 0 [] ≡ x ∷ getD ps 0 []
+      go [] = refl
+      go (p ∷ ps) = refl

@@ -6,7 +6,7 @@ use native.Mathlib.Omega.{arith}
 use lib.ListN.{length, take, drop, getD, length-append, length-drop, take-append-drop}
 use lib.Seq.{take-append-seam, drop-append-seam, drop-drop, getD-take, getD-drop, length-take-le}
 use Rattle.base.specs.Lists.{All, total, segments}
-use Rattle.base.proofs.Lists.{all-append}
+use Rattle.base.proofs.Lists.{all-append, all-front, all-back}
 
 -- ---- lists laid end to end
 
@@ -25,6 +25,12 @@ pub all-flatten : (P : ℕ → Type 0) (xs : List (List ℕ)) → All (All P) xs
 unfolding flatten
 all-flatten P [] a = tt
 all-flatten P (x ∷ xs) a = all-append P x (flatten xs) (a .0) (all-flatten P xs (a .1))
+
+-- and the other way round
+pub flatten-all : (P : ℕ → Type 0) (xs : List (List ℕ)) → All P (flatten xs) → All (All P) xs
+unfolding flatten
+flatten-all P [] a = tt
+flatten-all P (x ∷ xs) a = (all-front P x (flatten xs) a, flatten-all P xs (all-back P x (flatten xs) a))
 
 -- ---- segments
 

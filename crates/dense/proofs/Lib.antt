@@ -1,2 +1,6 @@
 pub mod Numbers
 pub mod Codewords
+pub mod Streams
+pub mod Calls
+pub mod Theorem
+pub mod Samples

@@ -1,3 +1,4 @@
 pub mod Code
 pub mod Streams
 pub mod Laws
+pub mod Samples
