@@ -65,14 +65,14 @@ code-short s i = rw (code-length s i) (go (ltb i (firstOfTwo s)) (ltb i (firstOf
 
 module _ (s : ℕ) (within : Closing s) where
   -- there is a closing value and a continuing one
-  some-closing : 0 < s
+  pub some-closing : 0 < s
   some-closing = within .least
 
-  some-continuing : 0 < continuing s
+  pub some-continuing : 0 < continuing s
   some-continuing = omega (arith, within .most)
 
   -- the closing byte of a remainder is a byte
-  closing-byte : (x : ℕ) → continuing s + x % s < 256
+  pub closing-byte : (x : ℕ) → continuing s + x % s < 256
   closing-byte x = omega (arith, mod-lt x some-closing, within .most)
 
   -- every codeword is continuing bytes and then one closing byte

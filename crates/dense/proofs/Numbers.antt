@@ -1,7 +1,7 @@
 -- Numbers in two and three digits: s and c stand for the numbers of closing and continuing values. Assumes nothing.
 use mathlib.Core.Path.{_≡_, ap, _∙_}
 use Prim.Native.Nat.{ℕ, _+_, _-_, _*_, _/_, _%_, _≤_, _<_}
-use native.Mathlib.Nat.{mul-add-mod-self-left, mul-add-div, mod-eq-of-lt, div-eq-of-lt, add-zero, mul-comm, div-lt-iff-lt-mul, mul-le-mul-left}
+use native.Mathlib.Nat.{mul-add-mod-self-left, mul-add-div, mod-eq-of-lt, div-eq-of-lt, add-zero, mul-comm, div-lt-iff-lt-mul, mul-le-mul-left, mul-le-mul}
 use native.Mathlib.Omega.{arith}
 
 -- a quotient is below c if the number is below m times c
@@ -32,3 +32,31 @@ second-part-below s c x h = omega arith
 
 pub third-part-below : (s c x : ℕ) → x < s * (c * c) → s + s * c + x < s * (1 + c + c * c)
 third-part-below s c x h = omega arith
+
+-- the products of the numbers of closing and continuing values are small
+pub record Small (s : ℕ) : Type 0 where
+  pub others : 256 - s ≤ 255
+  pub two : s * (256 - s) ≤ 65025
+  pub square : (256 - s) * (256 - s) ≤ 65025
+  pub three : s * ((256 - s) * (256 - s)) ≤ 16581375
+  pub all : s * (1 + (256 - s) + (256 - s) * (256 - s)) ≤ 16646655
+
+pub small : (s : ℕ) → 1 ≤ s → s ≤ 255 → Small s
+small s l h =
+    let o : 256 - s ≤ 255 = omega arith in
+    let t : s * (256 - s) ≤ 255 * 255 = mul-le-mul h o in
+    let q : (256 - s) * (256 - s) ≤ 255 * 255 = mul-le-mul o o in
+    let u : s * ((256 - s) * (256 - s)) ≤ 255 * (255 * 255) = mul-le-mul h q in
+    record { others = o; two = t; square = q; three = u; all = omega arith }
+
+-- a product of two bytes
+pub byte-product : (a b : ℕ) → a ≤ 255 → b ≤ 255 → a * b ≤ 65025
+byte-product a b h l = mul-le-mul h l
+
+-- a byte times two digits in one
+pub byte-product-digits : (a c x y : ℕ) → a ≤ 255 → c ≤ 255 → x ≤ 255 → y ≤ 255 → a * (c * x + y) ≤ 16646400
+byte-product-digits a c x y h l m n =
+    let p : c * x ≤ 255 * 255 = mul-le-mul l m in
+    let q : c * x + y ≤ 65280 = omega arith in
+    let r : a * (c * x + y) ≤ 255 * 65280 = mul-le-mul h q in
+    omega arith

@@ -2,3 +2,4 @@ pub mod Code
 pub mod Streams
 pub mod Laws
 pub mod Samples
+pub mod Words
