@@ -57,7 +57,7 @@ unfolding filled front
 filled-front a xs slice e = rw e
 
 pub fills-front : FillsFront
-fills-front = record { untouched = filled-not; written = filled-front; sameLength = λ a xs slice h. same-length a xs slice h (isAccepted a) refl }
+fills-front = record { untouched = filled-not; filling = filled-front; sameLength = λ a xs slice h. same-length a xs slice h (isAccepted a) refl }
   where
     same-length : (a : Answer) (xs slice : List ℕ) → length xs ≤ length slice → (t : Bool) → isAccepted a ≡ t → length (filled a xs slice) ≡ length slice
     same-length a xs slice h true e = rw (filled-front a xs slice e) (length-append xs (drop (length xs) slice) ∙ omega (arith, length-drop (length xs) slice))

@@ -6,4 +6,5 @@ pub mod Sums
 pub mod Segments
 pub mod Cuts
 pub mod Answers
+pub mod Fronts
 pub mod Texts

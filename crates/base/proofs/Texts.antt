@@ -3,12 +3,13 @@ use mathlib.Core.Path.{_≡_, refl, _∙_}
 use mathlib.Core.Bool.{Bool, true, false, cond, not}
 use mathlib.Core.List.{List}
 use Prim.Native.Nat.{ℕ, _≤_, _<_}
+use native.Mathlib.Omega.{arith}
 use borrow.Author.Tests.{ltb-true, lt-ltb, leb-true, le-leb}
 use lib.Dec.{ltb, leb}
 use lib.ListN.{length}
 use Rattle.base.specs.Lists.{All, Below, allPass, firstWhere}
 use Rattle.base.specs.Texts.{maxWords, ranksBelow, isText}
-use Rattle.base.proofs.Tests.{and-left, and-right, and-true, leb-not}
+use Rattle.base.proofs.Tests.{and-left, and-right, and-true, false-of, leb-not}
 use Rattle.base.proofs.Lists.{all-imp, all-of-pass, pass-of-all, first-where-inside, first-where-length}
 
 -- the test holds exactly if every rank is below V
@@ -41,10 +42,14 @@ not-below v w = leb-not w v (ltb w v) refl ∙ flip (ltb w v)
     flip true = refl
     flip false = refl
 
-pub outside-inside : (v : ℕ) (t : List ℕ) → ranksBelow v t ≡ false → firstWhere (λ (w : ℕ). leb v w) t < length t
+pub rank-outside : (v : ℕ) (t : List ℕ) → firstWhere (λ (w : ℕ). leb v w) t < length t → ranksBelow v t ≡ false
 unfolding ranksBelow
-outside-inside v t e = first-where-inside (λ (w : ℕ). leb v w) (λ (w : ℕ). ltb w v) (not-below v) t e
+rank-outside v t h = false-of (ranksBelow v t) (λ e. absurd (omega (arith, first-where-length (λ (w : ℕ). leb v w) (λ (w : ℕ). ltb w v) (not-below v) t e)))
 
-pub outside-none : (v : ℕ) (t : List ℕ) → ranksBelow v t ≡ true → firstWhere (λ (w : ℕ). leb v w) t ≡ length t
+pub no-rank-outside : (v : ℕ) (t : List ℕ) → length t ≤ firstWhere (λ (w : ℕ). leb v w) t → ranksBelow v t ≡ true
 unfolding ranksBelow
-outside-none v t e = first-where-length (λ (w : ℕ). leb v w) (λ (w : ℕ). ltb w v) (not-below v) t e
+no-rank-outside v t h = go (ranksBelow v t) refl
+  where
+    go : (r : Bool) → ranksBelow v t ≡ r → ranksBelow v t ≡ true
+    go true e = e
+    go false e = absurd (omega (arith, first-where-inside (λ (w : ℕ). leb v w) (λ (w : ℕ). ltb w v) (not-below v) t e))

@@ -1,10 +1,10 @@
 -- The answer of a call, the rule by which a refusal is chosen, and what a call leaves in a slice that it fills.
-use Prim.Native.Nat.{ℕ, _≤_}
+use Prim.Native.Nat.{ℕ, _+_, _≤_}
 use mathlib.Core.Path.{_≡_}
 use mathlib.Core.Bool.{Bool, true, false, cond}
 use mathlib.Core.List.{List, [], _∷_, _++_}
 use lib.Dec.{eqb}
-use lib.ListN.{length, drop}
+use lib.ListN.{length, take, drop}
 use Rattle.base.specs.declared.Answer.{Answer}
 
 -- an accepted call returns 0 and its answer
@@ -46,6 +46,10 @@ pub record FirstWins : Type 0 where
       firstOf (before ++ (test ⇒ r) ∷ after) answer ≡ r
   pub answers : (cases : List Case) (answer : Answer) → NoneHolds cases → firstOf cases answer ≡ answer
 
+-- what a slice holds after xs was written from a position on: the other elements stay
+unfoldable pub written : List ℕ → ℕ → List ℕ → List ℕ
+written xs at slice = take at slice ++ xs ++ drop (at + length xs) slice
+
 -- what a slice holds after xs was written to its front: the elements past it stay
 unfoldable pub front : List ℕ → List ℕ → List ℕ
 front xs slice = xs ++ drop (length xs) slice
@@ -58,5 +62,5 @@ filled a xs slice = cond (isAccepted a) (front xs slice) slice
 -- and the elements past that stay.
 pub record FillsFront : Type 0 where
   pub untouched : (a : Answer) (xs slice : List ℕ) → isAccepted a ≡ false → filled a xs slice ≡ slice
-  pub written : (a : Answer) (xs slice : List ℕ) → isAccepted a ≡ true → filled a xs slice ≡ xs ++ drop (length xs) slice
+  pub filling : (a : Answer) (xs slice : List ℕ) → isAccepted a ≡ true → filled a xs slice ≡ xs ++ drop (length xs) slice
   pub sameLength : (a : Answer) (xs slice : List ℕ) → length xs ≤ length slice → length (filled a xs slice) ≡ length slice

@@ -4,17 +4,17 @@ use mathlib.Core.Bool.{Bool, true, false, not}
 use mathlib.Core.List.{List, [], _∷_, _++_}
 use Prim.Native.Nat.{ℕ, _≤_, _<_}
 use native.Mathlib.Omega.{arith}
-use borrow.Author.Tests.{eq-eqb, le-ltb, ltb-false, not-false}
-use lib.Dec.{ltb}
+use borrow.Author.Tests.{eq-eqb, lt-ltb, le-ltb, ltb-false, not-false}
+use lib.Dec.{ltb, leb, eqb}
 use lib.ListN.{length, take, drop}
 use lib.Seq.{take-append-seam}
 use Rattle.base.specs.declared.Answer.{Answer}
-use Rattle.base.specs.Lists.{Below}
-use Rattle.base.specs.Refusals.{refusalShortSlice, refusalStream}
-use Rattle.base.specs.Answers.{accepted, refused, isAccepted, Case, _⇒_, firstOf, NoneHolds}
+use Rattle.base.specs.Lists.{Below, firstWhere}
+use Rattle.base.specs.Refusals.{refusalVocabulary, refusalWords, refusalTextRank, refusalShortSlice, refusalStream}
+use Rattle.base.specs.Answers.{accepted, refused, refusedAt, isAccepted, Case, _⇒_, firstOf, NoneHolds, front}
 use Rattle.base.specs.Texts.{maxWords, outside, ranksBelow, wordsCase, rankCase}
 use Rattle.base.proofs.Tests.{inside-range, range-inside}
-use Rattle.base.proofs.Answers.{none-holds, answers, filled-front}
+use Rattle.base.proofs.Answers.{first-here, first-later, none-holds, answers, filled-not, filled-front}
 use Rattle.base.proofs.Texts.{below-of-test, test-of-below}
 use Rattle.dense.specs.Code.{maxVocabulary, vocabularyCase}
 use Rattle.dense.specs.Streams.{stream, isBroken, streamText, closings, writeStreamAnswer, writeStreamExit, readStreamAnswer, readStreamExit}
@@ -61,6 +61,43 @@ writable-written s vocab t z w =
     (filled-front (writeStreamAnswer s vocab t z) (stream s t) z (ap isAccepted (writable-accepted s vocab t z w)))
     ∙ take-append-seam (stream s t) (drop (length (stream s t)) z)
 
+-- the refusals of the call that writes, in their order
+module _ (s vocab : ℕ) (t z : List ℕ) where
+  pub write-vocabulary : outside 1 (maxVocabulary s) vocab ≡ true → writeStreamAnswer s vocab t z ≡ refused refusalVocabulary
+  unfolding writeStreamAnswer vocabularyCase
+  write-vocabulary e = first-here _ _ _ _ e
+
+  module _ (vocabulary : outside 1 (maxVocabulary s) vocab ≡ false) where
+    pub write-words : maxWords < length t → writeStreamAnswer s vocab t z ≡ refused refusalWords
+    unfolding writeStreamAnswer vocabularyCase wordsCase
+    write-words h = first-later _ _ _ _ vocabulary ∙ first-here _ _ _ _ (lt-ltb maxWords (length t) h)
+
+    module _ (words : length t ≤ maxWords) where
+      pub write-rank : ranksBelow vocab t ≡ false → writeStreamAnswer s vocab t z ≡ refusedAt refusalTextRank (firstWhere (λ (w : ℕ). leb vocab w) t)
+      unfolding writeStreamAnswer vocabularyCase wordsCase rankCase
+      write-rank e = first-later _ _ _ _ vocabulary ∙ first-later _ _ _ _ (le-ltb maxWords (length t) words) ∙ first-here _ _ _ _ (ap not e)
+
+      pub write-short : ranksBelow vocab t ≡ true → length z < length (stream s t) → writeStreamAnswer s vocab t z ≡ refused refusalShortSlice
+      unfolding writeStreamAnswer vocabularyCase wordsCase rankCase
+      write-short e h =
+          first-later _ _ _ _ vocabulary ∙ first-later _ _ _ _ (le-ltb maxWords (length t) words) ∙ first-later _ _ _ _ (ap not e)
+          ∙ first-here _ _ _ _ (lt-ltb (length z) (length (stream s t)) h)
+
+  -- a refused call returns the answer and leaves the slice
+  pub write-refused : (number at : ℕ) → eqb number 0 ≡ false → writeStreamAnswer s vocab t z ≡ refusedAt number at
+      → (r : Answer) → r ≡ refusedAt number at → (r ≡ writeStreamAnswer s vocab t z) × (z ≡ writeStreamExit s vocab t z)
+  unfolding writeStreamExit
+  write-refused number at n e r q = (q ∙ sym e, sym (filled-not (writeStreamAnswer s vocab t z) (stream s t) z (ap isAccepted e ∙ n)))
+
+  -- an accepted call returns the number of bytes and has the stream in front
+  pub write-accepted : Writable s vocab t z → (r : Answer) (bytes : List ℕ) → r ≡ accepted (length (stream s t)) → bytes ≡ front (stream s t) z
+      → (r ≡ writeStreamAnswer s vocab t z) × (bytes ≡ writeStreamExit s vocab t z)
+  unfolding writeStreamExit front
+  write-accepted w r bytes q e = (
+    q ∙ sym (writable-accepted s vocab t z w),
+    e ∙ sym (filled-front (writeStreamAnswer s vocab t z) (stream s t) z (ap isAccepted (writable-accepted s vocab t z w))),
+  )
+
 -- what the call that reads a stream asks of the bytes and the slice
 pub record Readable (s : ℕ) (bytes z : List ℕ) : Type 0 where
   pub short : closings s bytes ≤ maxWords
@@ -94,3 +131,34 @@ readable-read s bytes z r =
     ap (take (length (streamText s bytes)))
     (filled-front (readStreamAnswer s bytes z) (streamText s bytes) z (ap isAccepted (readable-accepted s bytes z r)))
     ∙ take-append-seam (streamText s bytes) (drop (length (streamText s bytes)) z)
+
+-- the refusals of the call that reads, in their order
+module _ (s : ℕ) (bytes z : List ℕ) where
+  pub read-words : maxWords < closings s bytes → readStreamAnswer s bytes z ≡ refused refusalWords
+  unfolding readStreamAnswer wordsCase
+  read-words h = first-here _ _ _ _ (lt-ltb maxWords (closings s bytes) h)
+
+  module _ (words : closings s bytes ≤ maxWords) where
+    pub read-short : length z < closings s bytes → readStreamAnswer s bytes z ≡ refused refusalShortSlice
+    unfolding readStreamAnswer wordsCase
+    read-short h = first-later _ _ _ _ (le-ltb maxWords (closings s bytes) words) ∙ first-here _ _ _ _ (lt-ltb (length z) (closings s bytes) h)
+
+    pub read-broken : closings s bytes ≤ length z → isBroken s bytes ≡ true → readStreamAnswer s bytes z ≡ refused refusalStream
+    unfolding readStreamAnswer wordsCase
+    read-broken h e =
+        first-later _ _ _ _ (le-ltb maxWords (closings s bytes) words) ∙ first-later _ _ _ _ (le-ltb (length z) (closings s bytes) h) ∙ first-here _ _ _ _ e
+
+  -- a refused call returns the answer and leaves the slice
+  pub read-refused : (number : ℕ) → eqb number 0 ≡ false → readStreamAnswer s bytes z ≡ refused number
+      → (r : Answer) → r ≡ refused number → (r ≡ readStreamAnswer s bytes z) × (z ≡ readStreamExit s bytes z)
+  unfolding readStreamExit
+  read-refused number n e r q = (q ∙ sym e, sym (filled-not (readStreamAnswer s bytes z) (streamText s bytes) z (ap isAccepted e ∙ n)))
+
+  -- an accepted call returns the number of words and has the text in front
+  pub read-accepted : Readable s bytes z → (r : Answer) (t : List ℕ) → r ≡ accepted (closings s bytes) → t ≡ front (streamText s bytes) z
+      → (r ≡ readStreamAnswer s bytes z) × (t ≡ readStreamExit s bytes z)
+  unfolding readStreamExit front
+  read-accepted w r t q e = (
+    q ∙ sym (readable-accepted s bytes z w),
+    e ∙ sym (filled-front (readStreamAnswer s bytes z) (streamText s bytes) z (ap isAccepted (readable-accepted s bytes z w))),
+  )

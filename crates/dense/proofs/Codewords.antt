@@ -55,13 +55,16 @@ code-length s i = go (ltb i (firstOfTwo s)) (ltb i (firstOfThree s))
     go false false = refl
 
 -- at least one and at most three
-pub code-short : (s i : ℕ) → (1 ≤ length (code s i)) × (length (code s i) ≤ 3)
-code-short s i = rw (code-length s i) (go (ltb i (firstOfTwo s)) (ltb i (firstOfThree s)))
+pub code-length-most : (s i : ℕ) → (1 ≤ codeLength s i) × (codeLength s i ≤ 3)
+code-length-most s i = go (ltb i (firstOfTwo s)) (ltb i (firstOfThree s))
   where
     go : (p q : Bool) → (1 ≤ cond p 1 (cond q 2 3)) × (cond p 1 (cond q 2 3) ≤ 3)
     go true q = omega arith
     go false true = omega arith
     go false false = omega arith
+
+pub code-short : (s i : ℕ) → (1 ≤ length (code s i)) × (length (code s i) ≤ 3)
+code-short s i = rw (code-length s i) (code-length-most s i)
 
 module _ (s : ℕ) (within : Closing s) where
   -- there is a closing value and a continuing one

@@ -4,12 +4,15 @@ use mathlib.Core.Path.{_≡_, refl, sym, ap, ap₂, _∙_}
 use mathlib.Core.Bool.{Bool, true, false, cond, not, false≢true}
 use mathlib.Core.List.{List, [], _∷_, _++_, map, map-append, flatten, append-nil}
 use Prim.Native.Nat.{ℕ, suc, _+_, _*_, _≤_, _<_}
+use native.Mathlib.Numerals.{add-one}
 use native.Mathlib.Omega.{arith}
 use borrow.Author.Tests.{le-leb, lt-leb, leb-true, leb-false, not-false}
 use lib.Dec.{leb}
-use lib.ListN.{length, take, drop, getD, length-append, length-map}
+use lib.ListN.{length, take, drop, getD, length-append, length-take, length-map, take-append-drop}
 use lib.Seq.{take-suc}
 use Rattle.base.specs.Lists.{All, Below, total, allPass, filterBy, cutAfter, consFirst}
+use Rattle.base.specs.Answers.{written, front}
+use Rattle.base.proofs.Fronts.{front-more}
 use Rattle.base.proofs.Lists.{all-imp, all-map, all-of-pass, pass-of-all, map-map, map-all}
 use Rattle.base.proofs.Ranges.{filter-append}
 use Rattle.base.proofs.Sums.{total-append}
@@ -50,6 +53,33 @@ pub stream-most : (s : ℕ) (t : List ℕ) → length (stream s t) ≤ 3 * lengt
 unfolding stream flatten
 stream-most s [] = omega arith
 stream-most s (i ∷ t) = omega (arith, length-append (code s i) (stream s t), code-short s i .1, stream-most s t)
+
+-- one word more, by lengths
+pub stream-length-more : (s : ℕ) (t : List ℕ) (i : ℕ) → i < length t → length (stream s (take (i + 1) t)) ≡ length (stream s (take i t)) + codeLength s (getD t i 0)
+stream-length-more s t i h =
+    rw (add-one i) (ap length (stream-more s t i h) ∙ length-append (stream s (take i t)) (code s (getD t i 0)) ∙ ap (λ (n : ℕ). length (stream s (take i t)) + n) (code-length s (getD t i 0)))
+
+pub stream-take-most : (s : ℕ) (t : List ℕ) (i : ℕ) → length (stream s (take i t)) ≤ 3 * length t
+stream-take-most s t i = omega (arith, stream-most s (take i t), length-take i t)
+
+-- the stream of the first words is no longer than the whole stream, which so has room for the next word
+pub stream-prefix : (s : ℕ) (t : List ℕ) (i : ℕ) → length (stream s (take i t)) ≤ length (stream s t)
+stream-prefix s t i =
+    omega (
+      arith,
+      ap (λ (u : List ℕ). length (stream s u)) (take-append-drop i t),
+      ap length (stream-append s (take i t) (drop i t)),
+      length-append (stream s (take i t)) (stream s (drop i t)),
+    )
+
+pub stream-room : (s : ℕ) (t : List ℕ) (i : ℕ) → i < length t → length (stream s (take i t)) + codeLength s (getD t i 0) ≤ length (stream s t)
+stream-room s t i h = omega (arith, stream-length-more s t i h, stream-prefix s t (i + 1))
+
+-- the codeword of the next word is written behind the stream of the words before it
+pub stream-written : (s : ℕ) (t z : List ℕ) (i : ℕ) → i < length t
+    → written (code s (getD t i 0)) (length (stream s (take i t))) (front (stream s (take i t)) z) ≡ front (stream s (take (i + 1) t)) z
+stream-written s t z i h =
+    front-more (stream s (take i t)) (code s (getD t i 0)) z ∙ ap (λ (xs : List ℕ). front xs z) (sym (stream-more s t i h) ∙ ap (λ (n : ℕ). stream s (take n t)) (sym (add-one i)))
 
 -- ---- closing bytes
 

@@ -1,13 +1,21 @@
 -- A whole codeword as it is handed on, by its length. Assumes nothing.
-use mathlib.Core.Path.{_≡_, refl}
+use mathlib.Core.Path.{_≡_, refl, sym, ap, _∙_}
 use mathlib.Core.Bool.{true, false≢true}
-use Prim.Native.Nat.{ℕ, _+_, _*_, _-_, _≤_}
+use mathlib.Core.List.{List, [], _∷_}
+use Prim.Native.Nat.{ℕ, suc, _+_, _*_, _-_, _≤_}
+use native.Mathlib.Numerals.{add-one}
 use native.Mathlib.Omega.{arith}
 use borrow.Author.Tests.{leb-true}
+use lib.ListN.{length, set, length-take}
+use lib.Seq.{sets}
+use Rattle.base.specs.Answers.{written}
+use Rattle.base.proofs.Fronts.{written-sets}
 use Rattle.dense.specs.declared.Codeword.{Codeword}
-use Rattle.dense.specs.Code.{continuing, firstOfTwo, firstOfThree, rankOf}
+use Rattle.dense.specs.Code.{continuing, firstOfTwo, firstOfThree, code, rankOf}
 use Rattle.dense.specs.Streams.{isWhole}
+use Rattle.dense.specs.Laws.{codeLength}
 use Rattle.dense.specs.Words.{bytesOf}
+use Rattle.dense.proofs.Codewords.{code-length, code-short}
 
 module _ (s : ℕ) (w : Codeword) (whole : isWhole s (bytesOf w) ≡ true) where
   -- its last byte closes it, and its rank is the first rank of its length and the number that its digits write
@@ -23,3 +31,41 @@ module _ (s : ℕ) (w : Codeword) (whole : isWhole s (bytesOf w) ≡ true) where
   -- it is not empty
   pub whole-some : w .length ≡ 0 → ⊥
   whole-some e = false≢true (rw e at whole)
+
+-- the bytes of a codeword, by its length
+pub bytes-one : (w : Codeword) → w .length ≡ 1 → bytesOf w ≡ w .first ∷ []
+bytes-one w e = rw e
+
+pub bytes-two : (w : Codeword) → w .length ≡ 2 → bytesOf w ≡ w .first ∷ w .second ∷ []
+bytes-two w e = rw e
+
+pub bytes-three : (w : Codeword) → w .length ≡ 3 → bytesOf w ≡ w .first ∷ w .second ∷ w .third ∷ []
+bytes-three w e = rw e
+
+-- the codeword of a rank as it is handed on: its length, and what it leaves in a stream
+module _ (s rank : ℕ) (w : Codeword) (is : bytesOf w ≡ code s rank) (short : w .length ≤ 3) where
+  pub encoded-length : w .length ≡ length (code s rank)
+  encoded-length = sym (sym (ap length is) ∙ length-take (w .length) (w .first ∷ w .second ∷ w .third ∷ []) ∙ omega arith)
+
+  pub encoded-some : 1 ≤ w .length
+  encoded-some = omega (arith, encoded-length, code-short s rank .0)
+
+  pub encoded-room : (n : ℕ) → n + codeLength s rank ≡ n + w .length
+  encoded-room n = omega (arith, encoded-length, code-length s rank)
+
+  module _ (z : List ℕ) (at : ℕ) (room : at + codeLength s rank ≤ length z) where
+    -- stored byte by byte, it is written from the position on
+    stored : (bytes : List ℕ) → bytesOf w ≡ bytes → sets z at bytes ≡ written (code s rank) at z
+    stored bytes e =
+        ap (sets z at) (sym e ∙ is) ∙ written-sets (code s rank) z at (omega (arith, code-length s rank))
+
+    pub stored-one : w .length ≡ 1 → set z at (w .first) ≡ written (code s rank) at z
+    stored-one e = stored (w .first ∷ []) (bytes-one w e)
+
+    pub stored-two : w .length ≡ 2 → set (set z at (w .first)) (at + 1) (w .second) ≡ written (code s rank) at z
+    stored-two e = rw (add-one at) (stored (w .first ∷ w .second ∷ []) (bytes-two w e))
+
+    pub stored-three : w .length ≡ 3 → set (set (set z at (w .first)) (at + 1) (w .second)) (at + 2) (w .third) ≡ written (code s rank) at z
+    stored-three e =
+        let two : at + 2 ≡ suc (suc at) = omega arith in
+        rw (add-one at, two) (stored (w .first ∷ w .second ∷ w .third ∷ []) (bytes-three w e))
