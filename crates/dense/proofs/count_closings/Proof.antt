@@ -1,3 +1,15 @@
+-- `dense::count_closings` meets its contract. The loop's invariant: the closing bytes passed are counted. Assumes nothing.
+use mathlib.Core.Path.{refl, sym, ap, _∙_}
+use mathlib.Core.Bool.{Bool, true, false, cond}
+use mathlib.Core.Logic.{⊎-elim}
+use mathlib.Core.List.{List, []}
+use native.Mathlib.Numerals.{add-one}
+use borrow.Author.Tests.{le-leb, lt-leb}
+use lib.ListN.{take}
+use lib.Seq.{take-all}
+use Rattle.dense.specs.Code.{closes}
+use Rattle.dense.specs.Streams.{closings}
+use Rattle.dense.proofs.Streams.{closings-more}
 use Prim.Native.Nat.{ℕ, _+_, _≤_, _<_, _-_}
 use mathlib.Core.Path.{_≡_}
 use native.Mathlib.Omega.{arith}
@@ -9,46 +21,45 @@ use Rattle.dense.proofs.count_closings.Reads as reads
 use Rattle.dense.proofs.count_closings.Lts as lts
 
 abbrev Inv-loop : tie.InvT-loop
-Inv-loop s stream least found₀ at₀ found at = (at ≤ length stream) × (found ≡ closings s (take at stream))
+Inv-loop s stream least found₀ at₀ found at = (at ≤ length stream) × (found ≤ at) × (found ≡ closings s (take at stream))
 
 abbrev μ-loop : tie.MeasureT-loop
 μ-loop s stream least found₀ at₀ found at = length stream - at
 
--- src/lib.rt:194:17
 sub-least : tie.Need-sub-least Inv-loop μ-loop
 sub-least c = search needs
 
--- src/lib.rt:197:5
 loop-holds : tie.Need-loop-holds Inv-loop μ-loop
-loop-holds c = search needs
+unfolding closings
+loop-holds c = (omega arith, omega arith, refl)
 
--- src/lib.rt:198:20
 shared-slice-read-byte : tie.Need-shared-slice-read-byte Inv-loop μ-loop
 shared-slice-read-byte c = search needs
 
--- src/lib.rt:198:20
 cast-byte : tie.Need-cast-byte Inv-loop μ-loop
-cast-byte c = search needs
+cast-byte c = omega (arith, c .shared-slice-known .given (c .before .before .loop .at))
 
--- src/lib.rt:200:13
 add-found : tie.Need-add-found Inv-loop μ-loop
-add-found c = search needs
+add-found c = omega arith
 
--- src/lib.rt:202:9
 add-at : tie.Need-add-at Inv-loop μ-loop
 add-at c = search needs
 
--- src/lib.rt:197:5
 loop-less : tie.Need-loop-less Inv-loop μ-loop
 loop-less c = search needs
 
--- src/lib.rt:197:5
 loop-again : tie.Need-loop-again Inv-loop μ-loop
-loop-again c = search needs
+loop-again c = let start = c .before .before .before .before in
+    let loop = c .before .before .before .loop in
+    let h : loop .at < length (start .args .stream .now) = c .before .before .loop-test .taken in
+    let more = rw (← add-one (loop .at)) at (closings-more (start .args .s) (start .args .stream .now) (loop .at) h) in
+    ⊎-elim
+    (λ w. (omega arith, omega (arith, w .1), w .1 ∙ sym (more ∙ ap (λ (t : Bool). closings (start .args .s) (take (loop .at) (start .args .stream .now)) + cond t 1 0) (le-leb _ _ (w .0 .taken)) ∙ omega (arith, loop .inv .2))))
+    (λ w. (omega arith, omega (arith, w .1), w .1 ∙ sym (more ∙ ap (λ (t : Bool). closings (start .args .s) (take (loop .at) (start .args .stream .now)) + cond t 1 0) (lt-leb _ _ (w .0 .left)) ∙ omega (arith, loop .inv .2))))
+    (c .if1 .came)
 
--- src/lib.rt:190:1
 returns : tie.Need-returns Inv-loop μ-loop
-returns c = search needs
+returns c = c .before .loop .inv .2 ∙ ap (closings (c .before .before .args .s)) (take-all (c .before .loop .at) (c .before .before .args .stream .now) (omega arith))
 
 pub count-closings-spec : {M : Type 1} → statement M
 count-closings-spec =

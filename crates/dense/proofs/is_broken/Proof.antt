@@ -1,53 +1,66 @@
+-- `dense::is_broken` meets its contract. The loop's invariant: at most two bytes of a codeword are open, and they and the bytes left decide.
+-- Assumes nothing.
+-- Assumes nothing.
+use Prim.Native.Nat.{ℕ, _+_, _≤_, _<_, _-_}
+use mathlib.Core.Path.{_≡_, sym, ap, _∙_}
+use mathlib.Core.Logic.{⊎-elim}
+use native.Mathlib.Omega.{arith}
+use borrow.Author.Tests.{le-leb, lt-leb}
+use lib.ListN.{length, drop, getD}
+use Rattle.dense.specs.Streams.{isBroken}
+use Rattle.dense.proofs.Reading.{brokenAfter, broken-after, broken-closing, broken-continuing, broken-third, broken-end}
+use borrow.Author.Needs.{needs}
 use Rattle.dense.proofs.is_broken.Statement.{statement}
 use Rattle.dense.proofs.is_broken.Tie as tie
 use Rattle.dense.proofs.is_broken.Reads as reads
 use Rattle.dense.proofs.is_broken.Lts as lts
 
 abbrev Inv-loop : tie.InvT-loop
-Inv-loop s stream least open₀ at₀ «open» at = ?
+Inv-loop s stream least unclosed₀ at₀ unclosed at = (at ≤ length stream) × (unclosed ≤ 2) × (isBroken s stream ≡ brokenAfter s unclosed (drop at stream))
 
 abbrev μ-loop : tie.MeasureT-loop
-μ-loop s stream least open₀ at₀ «open» at = ?
+μ-loop s stream least unclosed₀ at₀ unclosed at = length stream - at
 
--- src/lib.rt:212:17
 sub-least : tie.Need-sub-least Inv-loop μ-loop
-sub-least c = ?
+sub-least c = search needs
 
--- src/lib.rt:215:5
 loop-holds : tie.Need-loop-holds Inv-loop μ-loop
-loop-holds c = ?
+loop-holds c = (omega arith, omega arith, broken-after (c .args .s) (c .args .stream .now) .0)
 
--- src/lib.rt:216:20
 shared-slice-read-byte : tie.Need-shared-slice-read-byte Inv-loop μ-loop
-shared-slice-read-byte c = ?
+shared-slice-read-byte c = search needs
 
--- src/lib.rt:216:20
 cast-byte : tie.Need-cast-byte Inv-loop μ-loop
-cast-byte c = ?
+cast-byte c = omega (arith, c .shared-slice-known .given (c .before .before .loop .at))
 
--- src/lib.rt:221:17
 returns : tie.Need-returns Inv-loop μ-loop
-returns c = ?
+returns c = let start = c .before .before .before .before .before in
+    let loop = c .before .before .before .before .loop in
+    sym (loop .inv .2 ∙ ap (λ (n : ℕ). brokenAfter (start .args .s) n (drop (loop .at) (start .args .stream .now))) (c .if2 .taken)
+    ∙ broken-third (start .args .s) (start .args .stream .now) (loop .at) (c .before .before .before .loop-test .taken) (lt-leb _ _ (c .before .if1 .left)))
 
--- src/lib.rt:223:13
-add-open : tie.Need-add-open Inv-loop μ-loop
-add-open c = ?
+add-unclosed : tie.Need-add-unclosed Inv-loop μ-loop
+add-unclosed c = search needs
 
--- src/lib.rt:225:9
 add-at : tie.Need-add-at Inv-loop μ-loop
-add-at c = ?
+add-at c = search needs
 
--- src/lib.rt:215:5
 loop-less : tie.Need-loop-less Inv-loop μ-loop
-loop-less c = ?
+loop-less c = search needs
 
--- src/lib.rt:215:5
 loop-again : tie.Need-loop-again Inv-loop μ-loop
-loop-again c = ?
+loop-again c = let start = c .before .before .before .before in
+    let loop = c .before .before .before .loop in
+    let h : loop .at < length (start .args .stream .now) = c .before .before .loop-test .taken in
+    ⊎-elim
+    (λ w. (omega arith, omega (arith, w .1), loop .inv .2 ∙ broken-closing (start .args .s) (loop .unclosed) (start .args .stream .now) (loop .at) h (le-leb _ _ (w .0 .taken))
+    ∙ ap (λ (n : ℕ). brokenAfter (start .args .s) n (drop (loop .at + 1) (start .args .stream .now))) (sym (w .1))))
+    (λ w. (omega arith, omega (arith, w .1 .left, w .2), loop .inv .2 ∙ broken-continuing (start .args .s) (loop .unclosed) (start .args .stream .now) (loop .at) h (lt-leb _ _ (w .0 .left)) (omega (arith, w .1 .left, loop .inv .1))
+    ∙ ap (λ (n : ℕ). brokenAfter (start .args .s) n (drop (loop .at + 1) (start .args .stream .now))) (sym (w .2))))
+    (c .if1 .came)
 
--- src/lib.rt:208:1
 returns-2 : tie.Need-returns-2 Inv-loop μ-loop
-returns-2 c = ?
+returns-2 c = sym (c .before .loop .inv .2 ∙ broken-end (c .before .before .args .s) (c .before .loop .unclosed) (c .before .before .args .stream .now) (c .before .loop .at) (c .loop-test .left))
 
 pub is-broken-spec : {M : Type 1} → statement M
 is-broken-spec =
@@ -60,7 +73,7 @@ is-broken-spec =
     shared-slice-read-byte
     cast-byte
     returns
-    add-open
+    add-unclosed
     add-at
     loop-less
     loop-again
