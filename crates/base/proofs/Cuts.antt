@@ -1,8 +1,8 @@
 -- Laws of a list that is cut after each element that passes a test. Assumes nothing.
+use Prim.Native.Nat.{ℕ}
 use mathlib.Core.Path.{_≡_, refl, ap}
 use mathlib.Core.Bool.{Bool, true, false, cond}
 use mathlib.Core.List.{List, [], _∷_, flatten}
-use Prim.Native.Nat.{ℕ}
 use lib.ListN.{getD}
 use Rattle.base.specs.Lists.{All, consFirst, cutAfter}
 

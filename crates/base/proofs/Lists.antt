@@ -1,16 +1,15 @@
 -- Laws of all elements of a list, of the first that passes a test, of equal lists, and of images. Assumes nothing.
+use Prim.Native.Nat.{ℕ, zero, suc, _+_, _≤_, _<_, min}
 use mathlib.Core.Path.{_≡_, refl, sym, ap, ap₂, _∙_}
 use mathlib.Core.Bool.{Bool, true, false, cond, _&&_, not, false≢true}
-use mathlib.Core.Logic.{_↔_}
 use mathlib.Core.List.{List, [], _∷_, _++_, map}
-use Prim.Native.Nat.{ℕ, zero, suc, _+_, _≤_, _<_, min}
 use native.Mathlib.Numerals.{add-one}
 use native.Mathlib.Omega.{arith}
 use borrow.Author.Tests.{eq-eqb, eqb-true}
 use lib.Dec.{eqb}
 use lib.ListN.{length, take, drop, getD, length-take, length-drop}
-use lib.Seq.{getD-take, getD-drop, ext-getD}
-use Rattle.base.specs.Lists.{All, Below, allPass, firstWhere, filterBy, same}
+use lib.Seq.{getD-drop}
+use Rattle.base.specs.Lists.{All, Below, allPass, firstWhere, same}
 use Rattle.base.proofs.Tests.{and-left, and-right, and-true, false-of}
 
 -- ---- all elements

@@ -1,14 +1,14 @@
 -- Laws of the numbers from a on: their images, what holds of all of them, and those that pass a test. Assumes nothing.
-use mathlib.Core.Path.{_≡_, refl, sym, ap, ap₂, _∙_}
-use mathlib.Core.Bool.{Bool, true, false, cond, _&&_, false≢true}
-use mathlib.Core.List.{List, [], _∷_, _++_, map, map-append}
 use Prim.Native.Nat.{ℕ, zero, suc, _+_, _-_, _≤_, _<_}
+use mathlib.Core.Path.{_≡_, refl, sym, ap, _∙_}
+use mathlib.Core.Bool.{Bool, true, false, cond}
+use mathlib.Core.List.{List, [], _∷_, _++_, map, map-append}
 use native.Mathlib.Numerals.{add-one}
 use native.Mathlib.Omega.{arith}
-use lib.ListN.{length, take, drop, getD, length-map}
+use lib.ListN.{length, getD, length-map}
 use lib.Seq.{ext-getD}
 use Rattle.base.specs.Lists.{All, allPass, filterBy, rangeFrom}
-use Rattle.base.proofs.Lists.{all-at, all-of-at, all-imp, all-of-pass, pass-of-all, all-append}
+use Rattle.base.proofs.Lists.{all-at, all-of-at, all-of-pass, pass-of-all}
 
 pub length-range : (a n : ℕ) → length (rangeFrom a n) ≡ n
 length-range a zero = refl

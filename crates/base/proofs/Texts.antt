@@ -1,13 +1,13 @@
 -- The test of a text's ranks, as a fact of each rank. Assumes nothing.
+use Prim.Native.Nat.{ℕ, _≤_, _<_}
 use mathlib.Core.Path.{_≡_, refl, _∙_}
 use mathlib.Core.Bool.{Bool, true, false, cond, not}
 use mathlib.Core.List.{List}
-use Prim.Native.Nat.{ℕ, _≤_, _<_}
 use native.Mathlib.Omega.{arith}
 use borrow.Author.Tests.{ltb-true, lt-ltb, leb-true, le-leb}
 use lib.Dec.{ltb, leb}
 use lib.ListN.{length}
-use Rattle.base.specs.Lists.{All, Below, allPass, firstWhere}
+use Rattle.base.specs.Lists.{Below, firstWhere}
 use Rattle.base.specs.Texts.{maxWords, ranksBelow, isText}
 use Rattle.base.proofs.Tests.{and-left, and-right, and-true, false-of, leb-not}
 use Rattle.base.proofs.Lists.{all-imp, all-of-pass, pass-of-all, first-where-inside, first-where-length}

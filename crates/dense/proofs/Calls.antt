@@ -1,9 +1,8 @@
 -- Which calls that write and read streams are accepted, and what those then have written. Assumes nothing.
-use mathlib.Core.Path.{_≡_, refl, sym, ap, _∙_}
-use mathlib.Core.Bool.{Bool, true, false, not}
-use mathlib.Core.List.{List, [], _∷_, _++_}
 use Prim.Native.Nat.{ℕ, _≤_, _<_}
-use native.Mathlib.Omega.{arith}
+use mathlib.Core.Path.{_≡_, refl, sym, ap, _∙_}
+use mathlib.Core.Bool.{true, false, not}
+use mathlib.Core.List.{List, [], _∷_}
 use borrow.Author.Tests.{eq-eqb, lt-ltb, le-ltb, ltb-false, not-false}
 use lib.Dec.{ltb, leb, eqb}
 use lib.ListN.{length, take, drop}
@@ -11,7 +10,7 @@ use lib.Seq.{take-append-seam}
 use Rattle.base.specs.declared.Answer.{Answer}
 use Rattle.base.specs.Lists.{Below, firstWhere}
 use Rattle.base.specs.Refusals.{refusalVocabulary, refusalWords, refusalTextRank, refusalShortSlice, refusalStream}
-use Rattle.base.specs.Answers.{accepted, refused, refusedAt, isAccepted, Case, _⇒_, firstOf, NoneHolds, front}
+use Rattle.base.specs.Answers.{accepted, refused, refusedAt, isAccepted, _⇒_, NoneHolds, front}
 use Rattle.base.specs.Texts.{maxWords, outside, ranksBelow, wordsCase, rankCase}
 use Rattle.base.proofs.Tests.{inside-range, range-inside}
 use Rattle.base.proofs.Answers.{first-here, first-later, none-holds, answers, filled-not, filled-front}

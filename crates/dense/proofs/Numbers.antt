@@ -1,6 +1,6 @@
 -- Numbers in two and three digits: s and c stand for the numbers of closing and continuing values. Assumes nothing.
-use mathlib.Core.Path.{_≡_, ap, _∙_}
 use Prim.Native.Nat.{ℕ, _+_, _-_, _*_, _/_, _%_, _≤_, _<_}
+use mathlib.Core.Path.{_≡_, ap, _∙_}
 use native.Mathlib.Nat.{mul-add-mod-self-left, mul-add-div, mod-eq-of-lt, div-eq-of-lt, add-zero, mul-comm, div-lt-iff-lt-mul, mul-le-mul-left, mul-le-mul}
 use native.Mathlib.Omega.{arith}
 

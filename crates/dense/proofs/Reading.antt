@@ -1,24 +1,24 @@
 -- Laws of reading a stream byte by byte and codeword by codeword. Assumes nothing.
+use Prim.Native.Nat.{ℕ, suc, _+_, _≤_, _<_}
 use mathlib.Core.Path.{_≡_, refl, sym, ap, _∙_}
-use mathlib.Core.Bool.{Bool, true, false, cond, not, _&&_, false≢true}
+use mathlib.Core.Bool.{Bool, true, false, cond, not, false≢true}
 use mathlib.Core.Logic.{_⊎_, inl, inr}
 use mathlib.Core.List.{List, [], _∷_, _++_, flatten}
-use Prim.Native.Nat.{ℕ, suc, _+_, _≤_, _<_}
 use native.Mathlib.Numerals.{add-one}
 use native.Mathlib.Omega.{arith}
 use borrow.Author.Tests.{lt-ltb}
 use lib.Dec.{ltb}
-use lib.ListN.{length, take, drop, getD, length-append, length-drop, drop-of-length-le}
+use lib.ListN.{length, drop, getD, length-append, length-drop, drop-of-length-le}
 use lib.Seq.{drop-cons, drop-drop, drop-append-seam}
 use Rattle.base.specs.Lists.{All, Below, allPass, cutAfter, consFirst}
 use Rattle.base.proofs.Tests.{below-or-not}
 use Rattle.base.proofs.Lists.{all-at, all-imp, all-drop, getD-map}
 use Rattle.base.proofs.Cuts.{firstPiece, first-piece-last, first-piece-more}
 use Rattle.dense.specs.Code.{Closing, maxVocabulary, closes, rankOf, Word, closing, going}
-use Rattle.dense.specs.Streams.{codewords, isWhole, isBroken, streamText, closings}
+use Rattle.dense.specs.Streams.{codewords, isWhole, isBroken, streamText}
 use Rattle.dense.specs.Words.{codewordAt}
 use Rattle.dense.proofs.Codewords.{code-of-rank}
-use Rattle.dense.proofs.Streams.{Whole, word-whole, whole-codewords, codewords-words, flatten-codewords, closings-whole, length-stream-text}
+use Rattle.dense.proofs.Streams.{Whole, word-whole, whole-codewords, codewords-words, length-stream-text}
 
 -- ---- whether a stream is broken
 
@@ -211,3 +211,29 @@ module _ (s : ℕ) (within : Closing s) (bytes : List ℕ) (b : Below 256 bytes)
       rest-left =
           sym (drop-drop (length (codewordAt s bytes at)) at bytes) ∙ ap (drop (length (codewordAt s bytes at))) rest
           ∙ drop-append-seam (codewordAt s bytes at) (flatten (drop (j + 1) (codewords s bytes)))
+
+-- the next codeword: there is one, it is whole, its rank is the next word of the text, and past it the next ones are left
+pub record Next (s : ℕ) (bytes : List ℕ) (at j : ℕ) : Type 0 where
+  pub more : j < length (streamText s bytes)
+  pub whole : isWhole s (codewordAt s bytes at) ≡ true
+  pub rank : rankOf s (codewordAt s bytes at) ≡ getD (streamText s bytes) j 0
+  pub small : rankOf s (codewordAt s bytes at) < maxVocabulary s
+  pub some : 1 ≤ length (codewordAt s bytes at)
+  pub inside : at + length (codewordAt s bytes at) ≤ length bytes
+  pub left : drop (at + length (codewordAt s bytes at)) bytes ≡ flatten (drop (j + 1) (codewords s bytes))
+
+pub next-word : (s : ℕ) → Closing s → (bytes : List ℕ) → Below 256 bytes → isBroken s bytes ≡ false → (at j : ℕ)
+    → drop at bytes ≡ flatten (drop j (codewords s bytes)) → at < length bytes → Next s bytes at j
+next-word s within bytes b unbroken at j left h = record {
+  more = rw (length-stream-text s bytes) (one-more s within bytes b unbroken at j left h);
+  whole = word-is-whole s within bytes b unbroken at j left h;
+  rank = rank-here s within bytes b unbroken at j left h;
+  small = rank-small s within bytes b unbroken at j left h;
+  some = not-empty (codewordAt s bytes at) (word-is-whole s within bytes b unbroken at j left h);
+  inside = rest-inside s within bytes b unbroken at j left h;
+  left = rest-left s within bytes b unbroken at j left h;
+}
+  where
+    not-empty : (w : List ℕ) → isWhole s w ≡ true → 1 ≤ length w
+    not-empty [] e = absurd (false≢true e)
+    not-empty (x ∷ xs) e = omega arith

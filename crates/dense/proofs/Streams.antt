@@ -1,21 +1,19 @@
 -- Laws of streams: their codewords, their length, their closing bytes, and that writing and reading give each other back.
 -- Assumes nothing.
+use Prim.Native.Nat.{ℕ, suc, _+_, _*_, _≤_, _<_}
 use mathlib.Core.Path.{_≡_, refl, sym, ap, ap₂, _∙_}
 use mathlib.Core.Bool.{Bool, true, false, cond, not, false≢true}
 use mathlib.Core.List.{List, [], _∷_, _++_, map, map-append, flatten, append-nil}
-use Prim.Native.Nat.{ℕ, suc, _+_, _*_, _≤_, _<_}
 use native.Mathlib.Numerals.{add-one}
 use native.Mathlib.Omega.{arith}
 use borrow.Author.Tests.{le-leb, lt-leb, leb-true, leb-false, not-false}
-use lib.Dec.{leb}
 use lib.ListN.{length, take, drop, getD, length-append, length-take, length-map, take-append-drop}
 use lib.Seq.{take-suc}
-use Rattle.base.specs.Lists.{All, Below, total, allPass, filterBy, cutAfter, consFirst}
+use Rattle.base.specs.Lists.{All, Below, total, allPass, filterBy, cutAfter}
 use Rattle.base.specs.Answers.{written, front}
 use Rattle.base.proofs.Fronts.{front-more}
-use Rattle.base.proofs.Lists.{all-imp, all-map, all-of-pass, pass-of-all, map-map, map-all}
+use Rattle.base.proofs.Lists.{all-imp, all-map, all-of-pass, pass-of-all, map-map}
 use Rattle.base.proofs.Ranges.{filter-append}
-use Rattle.base.proofs.Sums.{total-append}
 use Rattle.base.proofs.Segments.{flatten-append, length-flatten, flatten-all}
 use Rattle.base.proofs.Cuts.{flatten-cut, Inner, cut-inner}
 use Rattle.dense.specs.Code.{Closing, continuing, closes, maxVocabulary, code, rankOf, Word, closing, going}

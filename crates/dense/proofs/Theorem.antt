@@ -1,8 +1,7 @@
 -- The code and its streams give each other back, at every number of closing values. Assumes nothing.
-use mathlib.Core.Path.{_≡_, sym, ap, _∙_}
-use mathlib.Core.Bool.{false}
-use mathlib.Core.List.{List}
 use Prim.Native.Nat.{ℕ, _≤_}
+use mathlib.Core.Path.{_≡_, sym, ap, _∙_}
+use mathlib.Core.List.{List}
 use native.Mathlib.Omega.{arith}
 use lib.ListN.{length, take}
 use Rattle.base.specs.declared.Answer.{Answer}
@@ -10,7 +9,7 @@ use Rattle.base.specs.Lists.{Below}
 use Rattle.base.specs.Answers.{accepted}
 use Rattle.base.proofs.Lists.{below-weaken}
 use Rattle.dense.specs.Code.{Closing, maxVocabulary}
-use Rattle.dense.specs.Streams.{stream, streamText, isBroken, closings, writeStreamAnswer, writeStreamExit, readStreamAnswer, readStreamExit}
+use Rattle.dense.specs.Streams.{stream, streamText, writeStreamAnswer, writeStreamExit, readStreamAnswer, readStreamExit}
 use Rattle.dense.specs.Laws.{streamWritten, DenseExact}
 use Rattle.dense.proofs.Codewords.{code-word, code-length, rank-of-code, code-of-rank}
 use Rattle.dense.proofs.Streams.{stream-length, stream-not-broken, stream-closings, text-of-stream, stream-text-below, stream-of-text, closings-whole, length-stream-text}
@@ -42,7 +41,7 @@ module _ (s : ℕ) (within : Closing s) where
       rw (written-is-stream vocab t z w) (
         readable-accepted s (stream s t) y r ∙ ap accepted (stream-closings s within t b),
         ap (λ (x : List ℕ). take (length x) (readStreamExit s (stream s t) y)) (sym (text-of-stream s within t b))
-        ∙ readable-read s (stream s t) y r ∙ text-of-stream s within t b,
+            ∙ readable-read s (stream s t) y r ∙ text-of-stream s within t b,
       )
 
   pub by-calls-back : (bytes y z : List ℕ) (vocab : ℕ) → Below 256 bytes → readStreamAnswer s bytes y .refusal ≡ 0
@@ -60,7 +59,7 @@ module _ (s : ℕ) (within : Closing s) where
       } in (
         writable-accepted s vocab (streamText s bytes) z w ∙ ap (λ (x : List ℕ). accepted (length x)) q,
         ap (λ (x : List ℕ). take (length x) (writeStreamExit s vocab (streamText s bytes) z)) (sym q)
-        ∙ writable-written s vocab (streamText s bytes) z w ∙ q,
+            ∙ writable-written s vocab (streamText s bytes) z w ∙ q,
       )
 
 pub dense-exact : DenseExact

@@ -1,8 +1,8 @@
 -- A whole codeword as it is handed on, by its length. Assumes nothing.
-use mathlib.Core.Path.{_≡_, refl, sym, ap, _∙_}
+use Prim.Native.Nat.{ℕ, suc, _+_, _*_, _-_, _≤_}
+use mathlib.Core.Path.{_≡_, sym, ap, _∙_}
 use mathlib.Core.Bool.{true, false≢true}
 use mathlib.Core.List.{List, [], _∷_}
-use Prim.Native.Nat.{ℕ, suc, _+_, _*_, _-_, _≤_}
 use native.Mathlib.Numerals.{add-one}
 use native.Mathlib.Omega.{arith}
 use borrow.Author.Tests.{leb-true}
@@ -42,10 +42,14 @@ bytes-two w e = rw e
 pub bytes-three : (w : Codeword) → w .length ≡ 3 → bytesOf w ≡ w .first ∷ w .second ∷ w .third ∷ []
 bytes-three w e = rw e
 
+-- their number
+pub bytes-length : (w : Codeword) → w .length ≤ 3 → length (bytesOf w) ≡ w .length
+bytes-length w h = length-take (w .length) (w .first ∷ w .second ∷ w .third ∷ []) ∙ omega arith
+
 -- the codeword of a rank as it is handed on: its length, and what it leaves in a stream
 module _ (s rank : ℕ) (w : Codeword) (is : bytesOf w ≡ code s rank) (short : w .length ≤ 3) where
   pub encoded-length : w .length ≡ length (code s rank)
-  encoded-length = sym (sym (ap length is) ∙ length-take (w .length) (w .first ∷ w .second ∷ w .third ∷ []) ∙ omega arith)
+  encoded-length = sym (bytes-length w short) ∙ ap length is
 
   pub encoded-some : 1 ≤ w .length
   encoded-some = omega (arith, encoded-length, code-short s rank .0)

@@ -1,13 +1,12 @@
 -- Statements: the code and its streams give each other back, at every number of closing values.
-use Prim.Native.Nat.{ℕ, _+_, _*_, _≤_, _<_}
+use Prim.Native.Nat.{ℕ, _≤_, _<_}
 use mathlib.Core.Path.{_≡_}
-use mathlib.Core.Bool.{true, false, cond}
-use mathlib.Core.List.{List, [], _∷_, map}
+use mathlib.Core.Bool.{false, cond}
+use mathlib.Core.List.{List, map}
 use lib.Dec.{ltb}
 use lib.ListN.{length, take}
 use Rattle.base.specs.Lists.{Below, total}
 use Rattle.base.specs.Answers.{accepted}
-use Rattle.base.specs.Texts.{maxWords}
 use Rattle.dense.specs.Code.{Closing, maxVocabulary, firstOfTwo, firstOfThree, code, rankOf, Word}
 use Rattle.dense.specs.Streams.{stream, streamText, isBroken, closings, writeStreamAnswer, writeStreamExit, readStreamAnswer, readStreamExit}
 

@@ -5,7 +5,7 @@ use mathlib.Core.Bool.{true, false}
 use mathlib.Core.List.{List, [], _∷_, map}
 use Rattle.base.specs.Answers.{accepted, refused, refusedAt}
 use Rattle.dense.specs.Code.{maxVocabulary, code}
-use Rattle.dense.specs.Streams.{stream, isBroken, streamText, closings, writeStreamAnswer, writeStreamExit, readStreamAnswer, readStreamExit}
+use Rattle.dense.specs.Streams.{stream, isBroken, streamText, writeStreamAnswer, writeStreamExit, readStreamAnswer, readStreamExit}
 
 -- the stream of the sample, and its text
 abbrev pub sampleStream : List ℕ

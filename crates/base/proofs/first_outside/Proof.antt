@@ -1,13 +1,13 @@
 -- `base::first_outside` meets its contract. The loop's invariant: the ranks passed are below the vocabulary. Assumes nothing.
-use Prim.Native.Nat.{ℕ, _+_, _≤_, _<_, _-_}
+use Prim.Native.Nat.{ℕ, _≤_, _<_, _-_}
 use mathlib.Core.Path.{_≡_, sym, _∙_}
 use mathlib.Core.Bool.{false}
 use native.Mathlib.Omega.{arith}
 use borrow.Author.Count.{below-more}
 use borrow.Author.Tests.{le-leb, lt-leb}
+use borrow.Author.Needs.{needs}
 use lib.Dec.{leb}
 use lib.ListN.{length, getD}
-use borrow.Author.Needs.{needs}
 use Rattle.base.proofs.Lists.{first-where-at, first-where-none}
 use Rattle.base.proofs.first_outside.Statement.{statement}
 use Rattle.base.proofs.first_outside.Tie as tie

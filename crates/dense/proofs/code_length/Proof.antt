@@ -1,13 +1,11 @@
 -- `dense::code_length` meets its contract. Assumes nothing.
 use mathlib.Core.Path.{sym, _∙_}
 use native.Mathlib.Omega.{arith}
+use borrow.Author.Needs.{needs}
 use Rattle.base.proofs.Tests.{cond-below, cond-not-below}
 use Rattle.dense.proofs.Numbers.{small}
-use borrow.Author.Needs.{needs}
 use Rattle.dense.proofs.code_length.Statement.{statement}
 use Rattle.dense.proofs.code_length.Tie as tie
-use Rattle.dense.proofs.code_length.Reads as reads
-use Rattle.dense.proofs.code_length.Lts as lts
 
 returns : tie.Need-returns
 returns c = sym (cond-below _ _ (c .before .args .rank) (c .before .args .s) (c .if1 .taken))

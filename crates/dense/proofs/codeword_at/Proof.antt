@@ -1,52 +1,45 @@
+-- `dense::codeword_at` meets its contract, by the bytes that it meets. Assumes nothing.
+use Prim.Native.Nat.{_+_}
+use mathlib.Core.Path.{sym}
+use native.Mathlib.Omega.{arith}
+use borrow.Author.Tests.{le-leb, lt-leb}
 use borrow.Author.Needs.{needs}
+use Rattle.dense.proofs.Reading.{word-one, word-two, word-three, second-there, third-there}
 use Rattle.dense.proofs.codeword_at.Statement.{statement}
 use Rattle.dense.proofs.codeword_at.Tie as tie
-use Rattle.dense.proofs.codeword_at.Reads as reads
-use Rattle.dense.proofs.codeword_at.Lts as lts
 
--- src/lib.rt:235:17
 sub-least : tie.Need-sub-least
 sub-least c = search needs
 
--- src/lib.rt:236:17
 shared-slice-read-first : tie.Need-shared-slice-read-first
 shared-slice-read-first c = search needs
 
--- src/lib.rt:237:17
 cast-if1 : tie.Need-cast-if1
-cast-if1 c = ?
+cast-if1 c = omega (arith, c .shared-slice-known .given (c .before .args .at))
 
--- src/lib.rt:238:9
 returns : tie.Need-returns
-returns c = ?
+returns c = (sym (word-one (c .before .before .args .s) (c .before .before .args .stream .now) (c .before .before .args .at) (c .before .before .pre .1) (c .before .before .pre .2) (le-leb _ _ (c .if1 .taken))), omega arith)
 
--- src/lib.rt:245:25
 add-second : tie.Need-add-second
 add-second c = search needs
 
--- src/lib.rt:245:18
 shared-slice-read-second : tie.Need-shared-slice-read-second
-shared-slice-read-second c = ?
+shared-slice-read-second c = second-there (c .before .before .before .args .s) (c .before .before .before .args .stream .now) (c .before .before .before .args .at) (c .before .before .before .pre .1) (c .before .before .before .pre .2) (lt-leb _ _ (c .before .if1 .left))
 
--- src/lib.rt:246:17
 cast-if2 : tie.Need-cast-if2
-cast-if2 c = ?
+cast-if2 c = omega (arith, c .shared-slice-known2 .given (c .before .before .before .args .at + 1))
 
--- src/lib.rt:247:9
 returns-2 : tie.Need-returns-2
-returns-2 c = ?
+returns-2 c = (sym (word-two (c .before .before .before .before .args .s) (c .before .before .before .before .args .stream .now) (c .before .before .before .before .args .at) (c .before .before .before .before .pre .1) (c .before .before .before .before .pre .2) (lt-leb _ _ (c .before .before .if1 .left)) (le-leb _ _ (c .if2 .taken))), omega arith)
 
--- src/lib.rt:257:23
 add-t9 : tie.Need-add-t9
 add-t9 c = search needs
 
--- src/lib.rt:257:16
 shared-slice-read-t8 : tie.Need-shared-slice-read-t8
-shared-slice-read-t8 c = ?
+shared-slice-read-t8 c = third-there (c .before .before .before .before .before .args .s) (c .before .before .before .before .before .args .stream .now) (c .before .before .before .before .before .args .at) (c .before .before .before .before .before .pre .1) (c .before .before .before .before .before .pre .2) (lt-leb _ _ (c .before .before .before .if1 .left)) (lt-leb _ _ (c .before .if2 .left))
 
--- src/lib.rt:231:1
 returns-3 : tie.Need-returns-3
-returns-3 c = ?
+returns-3 c = (sym (word-three (c .before .before .before .before .before .args .s) (c .before .before .before .before .before .args .stream .now) (c .before .before .before .before .before .args .at) (c .before .before .before .before .before .pre .1) (c .before .before .before .before .before .pre .2) (lt-leb _ _ (c .before .before .before .if1 .left)) (lt-leb _ _ (c .before .if2 .left))), omega arith)
 
 pub codeword-at-spec : {M : Type 1} → statement M
 codeword-at-spec =

@@ -1,24 +1,18 @@
 -- `dense::count_closings` meets its contract. The loop's invariant: the closing bytes passed are counted. Assumes nothing.
-use mathlib.Core.Path.{refl, sym, ap, _∙_}
-use mathlib.Core.Bool.{Bool, true, false, cond}
+use Prim.Native.Nat.{_+_, _≤_, _<_, _-_}
+use mathlib.Core.Path.{refl, sym, ap, _∙_, _≡_}
+use mathlib.Core.Bool.{Bool, cond}
 use mathlib.Core.Logic.{⊎-elim}
-use mathlib.Core.List.{List, []}
 use native.Mathlib.Numerals.{add-one}
+use native.Mathlib.Omega.{arith}
 use borrow.Author.Tests.{le-leb, lt-leb}
-use lib.ListN.{take}
+use borrow.Author.Needs.{needs}
+use lib.ListN.{take, length}
 use lib.Seq.{take-all}
-use Rattle.dense.specs.Code.{closes}
 use Rattle.dense.specs.Streams.{closings}
 use Rattle.dense.proofs.Streams.{closings-more}
-use Prim.Native.Nat.{ℕ, _+_, _≤_, _<_, _-_}
-use mathlib.Core.Path.{_≡_}
-use native.Mathlib.Omega.{arith}
-use lib.ListN.{length, getD}
-use borrow.Author.Needs.{needs}
 use Rattle.dense.proofs.count_closings.Statement.{statement}
 use Rattle.dense.proofs.count_closings.Tie as tie
-use Rattle.dense.proofs.count_closings.Reads as reads
-use Rattle.dense.proofs.count_closings.Lts as lts
 
 abbrev Inv-loop : tie.InvT-loop
 Inv-loop s stream least found₀ at₀ found at = (at ≤ length stream) × (found ≤ at) × (found ≡ closings s (take at stream))

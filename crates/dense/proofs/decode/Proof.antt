@@ -1,16 +1,13 @@
 -- `dense::decode` meets its contract, by the length of the codeword. Assumes nothing.
-use Prim.Native.Nat.{ℕ}
+use Prim.Native.Nat.{ℕ, _≤_}
 use mathlib.Core.Path.{_≡_}
-use Prim.Native.Nat.{_≤_}
 use native.Mathlib.Omega.{arith}
+use borrow.Author.Needs.{needs}
 use Rattle.dense.specs.Code.{continuing}
 use Rattle.dense.proofs.Numbers.{small, byte-product, byte-product-digits}
 use Rattle.dense.proofs.Words.{whole-one, whole-two, whole-three, whole-some}
-use borrow.Author.Needs.{needs}
 use Rattle.dense.proofs.decode.Statement.{statement}
 use Rattle.dense.proofs.decode.Tie as tie
-use Rattle.dense.proofs.decode.Reads as reads
-use Rattle.dense.proofs.decode.Lts as lts
 
 -- what is not 0, 1 or 2, and at most 3
 is-three : {n : ℕ} → (n ≡ 0 → ⊥) → (n ≡ 1 → ⊥) → (n ≡ 2 → ⊥) → n ≤ 3 → n ≡ 3

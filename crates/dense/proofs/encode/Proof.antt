@@ -1,18 +1,14 @@
 -- `dense::encode` meets its contract, by the length of the codeword. Assumes nothing.
-use Rattle.dense.proofs.Codewords.{some-continuing, closing-byte}
-use mathlib.Core.Path.{sym, ap, _∙_}
-use Prim.Native.Nat.{_+_, _-_, _*_, _/_, _%_, _<_, _≤_}
+use Prim.Native.Nat.{_+_, _-_, _*_, _/_, _<_}
+use mathlib.Core.Path.{sym, ap, _∙_, _≡_}
 use native.Mathlib.Omega.{arith}
 use native.Mathlib.Nat.{mod-lt}
-use mathlib.Core.Path.{_≡_}
-use Rattle.dense.specs.Code.{continuing, maxVocabulary, code}
-use Rattle.dense.proofs.Numbers.{small, div-below, third-part}
-use Rattle.dense.proofs.Codewords.{code-one, code-two, code-three}
 use borrow.Author.Needs.{needs}
+use Rattle.dense.proofs.Codewords.{some-continuing, closing-byte, code-one, code-two, code-three}
+use Rattle.dense.specs.Code.{continuing, code}
+use Rattle.dense.proofs.Numbers.{small, div-below}
 use Rattle.dense.proofs.encode.Statement.{statement}
 use Rattle.dense.proofs.encode.Tie as tie
-use Rattle.dense.proofs.encode.Reads as reads
-use Rattle.dense.proofs.encode.Lts as lts
 
 sub-c : tie.Need-sub-c
 sub-c c = search needs

@@ -6,14 +6,12 @@ use mathlib.Core.Path.{_≡_, sym, ap, _∙_}
 use mathlib.Core.Logic.{⊎-elim}
 use native.Mathlib.Omega.{arith}
 use borrow.Author.Tests.{le-leb, lt-leb}
-use lib.ListN.{length, drop, getD}
+use borrow.Author.Needs.{needs}
+use lib.ListN.{length, drop}
 use Rattle.dense.specs.Streams.{isBroken}
 use Rattle.dense.proofs.Reading.{brokenAfter, broken-after, broken-closing, broken-continuing, broken-third, broken-end}
-use borrow.Author.Needs.{needs}
 use Rattle.dense.proofs.is_broken.Statement.{statement}
 use Rattle.dense.proofs.is_broken.Tie as tie
-use Rattle.dense.proofs.is_broken.Reads as reads
-use Rattle.dense.proofs.is_broken.Lts as lts
 
 abbrev Inv-loop : tie.InvT-loop
 Inv-loop s stream least unclosed₀ at₀ unclosed at = (at ≤ length stream) × (unclosed ≤ 2) × (isBroken s stream ≡ brokenAfter s unclosed (drop at stream))
@@ -53,10 +51,18 @@ loop-again c = let start = c .before .before .before .before in
     let loop = c .before .before .before .loop in
     let h : loop .at < length (start .args .stream .now) = c .before .before .loop-test .taken in
     ⊎-elim
-    (λ w. (omega arith, omega (arith, w .1), loop .inv .2 ∙ broken-closing (start .args .s) (loop .unclosed) (start .args .stream .now) (loop .at) h (le-leb _ _ (w .0 .taken))
-    ∙ ap (λ (n : ℕ). brokenAfter (start .args .s) n (drop (loop .at + 1) (start .args .stream .now))) (sym (w .1))))
-    (λ w. (omega arith, omega (arith, w .1 .left, w .2), loop .inv .2 ∙ broken-continuing (start .args .s) (loop .unclosed) (start .args .stream .now) (loop .at) h (lt-leb _ _ (w .0 .left)) (omega (arith, w .1 .left, loop .inv .1))
-    ∙ ap (λ (n : ℕ). brokenAfter (start .args .s) n (drop (loop .at + 1) (start .args .stream .now))) (sym (w .2))))
+    (λ w. (
+      omega arith,
+      omega (arith, w .1),
+      loop .inv .2 ∙ broken-closing (start .args .s) (loop .unclosed) (start .args .stream .now) (loop .at) h (le-leb _ _ (w .0 .taken))
+          ∙ ap (λ (n : ℕ). brokenAfter (start .args .s) n (drop (loop .at + 1) (start .args .stream .now))) (sym (w .1)),
+    ))
+    (λ w. (
+      omega arith,
+      omega (arith, w .1 .left, w .2),
+      loop .inv .2 ∙ broken-continuing (start .args .s) (loop .unclosed) (start .args .stream .now) (loop .at) h (lt-leb _ _ (w .0 .left)) (omega (arith, w .1 .left, loop .inv .1))
+          ∙ ap (λ (n : ℕ). brokenAfter (start .args .s) n (drop (loop .at + 1) (start .args .stream .now))) (sym (w .2)),
+    ))
     (c .if1 .came)
 
 returns-2 : tie.Need-returns-2 Inv-loop μ-loop

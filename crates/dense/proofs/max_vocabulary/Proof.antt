@@ -1,11 +1,9 @@
 -- `dense::max_vocabulary` meets its contract. Assumes nothing.
 use native.Mathlib.Omega.{arith}
-use Rattle.dense.proofs.Numbers.{small}
 use borrow.Author.Needs.{needs}
+use Rattle.dense.proofs.Numbers.{small}
 use Rattle.dense.proofs.max_vocabulary.Statement.{statement}
 use Rattle.dense.proofs.max_vocabulary.Tie as tie
-use Rattle.dense.proofs.max_vocabulary.Reads as reads
-use Rattle.dense.proofs.max_vocabulary.Lts as lts
 
 sub-c : tie.Need-sub-c
 sub-c c = search needs

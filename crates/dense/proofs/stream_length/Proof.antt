@@ -1,23 +1,16 @@
 -- `dense::stream_length` meets its contract. The loop's invariant: the bytes counted are those of the words passed. Assumes nothing.
+use Prim.Native.Nat.{ℕ, _≤_, _-_}
 use mathlib.Core.List.{List}
-use Rattle.dense.proofs.Streams.{stream-none, stream-length-more, stream-take-most}
-use mathlib.Core.Path.{sym, ap, _∙_}
-use native.Mathlib.Numerals.{add-one}
-use lib.ListN.{take, length-append}
+use mathlib.Core.Path.{sym, ap, _∙_, _≡_}
+use native.Mathlib.Omega.{arith}
+use borrow.Author.Needs.{needs}
+use lib.ListN.{take, length, getD}
 use lib.Seq.{take-all}
+use Rattle.dense.proofs.Streams.{stream-none, stream-length-more, stream-take-most}
 use Rattle.dense.specs.Streams.{stream}
 use Rattle.dense.proofs.Codewords.{code-length-most}
-
-use Prim.Native.Nat.{ℕ, _+_, _≤_, _<_, _-_}
-use mathlib.Core.Path.{_≡_}
-use native.Mathlib.Omega.{arith}
-use lib.ListN.{length, getD}
-use borrow.Author.Needs.{needs}
 use Rattle.dense.proofs.stream_length.Statement.{statement}
 use Rattle.dense.proofs.stream_length.Tie as tie
-use Rattle.dense.proofs.stream_length.Reads as reads
-use Rattle.dense.proofs.stream_length.Lts as lts
-use Rattle.dense.proofs.code_length.Reads as code-length-reads
 
 abbrev Inv-loop : tie.InvT-loop
 Inv-loop s text bytes₀ place₀ bytes place = (place ≤ length text) × (bytes ≡ length (stream s (take place text)))

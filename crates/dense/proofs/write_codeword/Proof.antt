@@ -1,16 +1,12 @@
 -- `dense::write_codeword` meets its contract, by the length of the codeword. Assumes nothing.
-use mathlib.Core.Path.{_≡_, ap, sym, _∙_}
-use Prim.Native.Nat.{ℕ, _+_, _≤_}
+use Prim.Native.Nat.{ℕ, _≤_}
+use mathlib.Core.Path.{_≡_}
 use native.Mathlib.Omega.{arith}
-use lib.ListN.{length-set}
-use Rattle.dense.proofs.Codewords.{code-length}
-use Rattle.dense.proofs.Words.{encoded-length, encoded-some, encoded-room, stored-one, stored-two, stored-three}
 use borrow.Author.Needs.{needs}
+use lib.ListN.{length-set}
+use Rattle.dense.proofs.Words.{encoded-length, encoded-some, encoded-room, stored-one, stored-two, stored-three}
 use Rattle.dense.proofs.write_codeword.Statement.{statement}
 use Rattle.dense.proofs.write_codeword.Tie as tie
-use Rattle.dense.proofs.write_codeword.Reads as reads
-use Rattle.dense.proofs.write_codeword.Lts as lts
-use Rattle.dense.proofs.encode.Reads as encode-reads
 
 -- what is at least 1, not 1 or 2, and at most 3
 is-three : {n : ℕ} → 1 ≤ n → (n ≡ 1 → ⊥) → (n ≡ 2 → ⊥) → n ≤ 3 → n ≡ 3

@@ -1,32 +1,17 @@
 -- `dense::write_stream_of` meets its contract: each refusal by the tests before it, the accepted call by all of them. Assumes nothing.
-use mathlib.Core.List.{List}
-use Prim.Native.Nat.{_≤_, _<_}
 use mathlib.Core.Path.{_≡_, refl, sym, ap, _∙_}
 use mathlib.Core.Bool.{true, false}
 use native.Mathlib.Omega.{arith}
-use lib.ListN.{length}
-use Rattle.base.specs.Lists.{Below}
-use Rattle.base.specs.Texts.{maxWords, outside, ranksBelow}
-use Rattle.base.specs.Answers.{accepted, refusedAt, front}
+use borrow.Author.Needs.{needs}
+use Rattle.base.specs.Texts.{outside, ranksBelow}
+use Rattle.base.specs.Answers.{accepted, refusedAt}
 use Rattle.base.proofs.Tests.{inside-range, below-range, above-range}
 use Rattle.base.proofs.Lists.{below-weaken}
 use Rattle.base.proofs.Texts.{below-of-test, rank-outside, no-rank-outside}
-use Rattle.base.proofs.Fronts.{length-front}
 use Rattle.dense.specs.Code.{maxVocabulary}
-use Rattle.dense.specs.Streams.{stream as streamOf}
 use Rattle.dense.proofs.Calls.{Writable, write-vocabulary, write-words, write-rank, write-short, write-refused, write-accepted}
-use borrow.Author.Needs.{needs}
 use Rattle.dense.proofs.write_stream_of.Statement.{statement}
 use Rattle.dense.proofs.write_stream_of.Tie as tie
-use Rattle.dense.proofs.write_stream_of.Reads as reads
-use Rattle.dense.proofs.write_stream_of.Lts as lts
-use Rattle.base.proofs.Answer.accepted.Reads as accepted-reads
-use Rattle.base.proofs.Answer.refused.Reads as refused-reads
-use Rattle.base.proofs.Answer.refused_at.Reads as refused-at-reads
-use Rattle.base.proofs.first_outside.Reads as first-outside-reads
-use Rattle.dense.proofs.max_vocabulary.Reads as max-vocabulary-reads
-use Rattle.dense.proofs.stream_length.Reads as stream-length-reads
-use Rattle.dense.proofs.write_text.Reads as write-text-reads
 
 -- past the tests of the vocabulary, it is within its limits
 vocabulary-inside : (c : tie.Else2) → outside 1 (maxVocabulary (c .before .before .before .before .before .args .s)) (c .before .before .before .before .before .args .vocabulary) ≡ false

@@ -1,25 +1,19 @@
 -- `dense::write_text` meets its contract. The loop's invariant: the codewords of the words passed stand in front. Assumes nothing.
-use Rattle.dense.proofs.Streams.{stream-prefix}
-use Rattle.base.proofs.Lists.{all-at}
-use Rattle.base.proofs.Fronts.{front-none, length-front}
-use Rattle.dense.proofs.Streams.{stream-length-more, stream-written}
-use Rattle.dense.proofs.Codewords.{code-length}
-use Rattle.dense.specs.Code.{code, maxVocabulary}
-use Rattle.base.specs.Answers.{written}
-use Prim.Native.Nat.{ℕ, _+_, _≤_, _<_, _-_}
+use Prim.Native.Nat.{ℕ, _≤_, _<_, _-_}
 use mathlib.Core.Path.{_≡_, sym, ap, _∙_}
 use mathlib.Core.List.{List}
 use native.Mathlib.Omega.{arith}
 use lib.ListN.{length, take, getD}
 use lib.Seq.{take-all}
-use Rattle.base.specs.Answers.{front}
+use Rattle.dense.proofs.Streams.{stream-prefix, stream-length-more, stream-written, stream-none, stream-room}
+use Rattle.base.proofs.Lists.{all-at}
+use Rattle.base.proofs.Fronts.{front-none, length-front}
+use Rattle.dense.proofs.Codewords.{code-length}
+use Rattle.dense.specs.Code.{code, maxVocabulary}
+use Rattle.base.specs.Answers.{written, front}
 use Rattle.dense.specs.Streams.{stream as streamOf}
-use Rattle.dense.proofs.Streams.{stream-none, stream-room}
 use Rattle.dense.proofs.write_text.Statement.{statement}
 use Rattle.dense.proofs.write_text.Tie as tie
-use Rattle.dense.proofs.write_text.Reads as reads
-use Rattle.dense.proofs.write_text.Lts as lts
-use Rattle.dense.proofs.write_codeword.Reads as write-codeword-reads
 
 abbrev Inv-loop : tie.InvT-loop
 Inv-loop s text stream₀ at₀ place₀ stream at place = (place ≤ length text) × (at ≡ length (streamOf s (take place text))) × (stream ≡ front (streamOf s (take place text)) stream₀)
@@ -72,9 +66,9 @@ loop-again c = let start = c .before .before .before .before .before .before .be
       omega arith,
       omega (arith, call .ensures .0, stream-length-more (start .args .s) text (loop .place) h, code-length (start .args .s) (getD text (loop .place) 0), loop .inv .1),
       call .ensures .1
-      ∙ ap (λ (z : List ℕ). written (code (start .args .s) (getD text (loop .place) 0)) (loop .at) z) (loop .inv .2)
-      ∙ ap (λ (n : ℕ). written (code (start .args .s) (getD text (loop .place) 0)) n (front (streamOf (start .args .s) (take (loop .place) text)) (start .args .stream .now))) (loop .inv .1)
-      ∙ stream-written (start .args .s) text (start .args .stream .now) (loop .place) h,
+          ∙ ap (λ (z : List ℕ). written (code (start .args .s) (getD text (loop .place) 0)) (loop .at) z) (loop .inv .2)
+          ∙ ap (λ (n : ℕ). written (code (start .args .s) (getD text (loop .place) 0)) n (front (streamOf (start .args .s) (take (loop .place) text)) (start .args .stream .now))) (loop .inv .1)
+          ∙ stream-written (start .args .s) text (start .args .stream .now) (loop .place) h,
     )
 
 same-length : tie.Need-same-length Inv-loop μ-loop
