@@ -8,7 +8,7 @@ use native.Mathlib.Omega.{arith}
 use lib.Dec.{eqb}
 use lib.ListN.{length, take, drop, getD, length-take, length-drop, take-append-drop}
 use lib.Seq.{take-suc, take-add, take-all, take-length, take-take, getD-take, length-take-le, slice}
-use Rattle.base.specs.Lists.{countOf, nth}
+use Rattle.base.specs.Lists.{All, countOf, nth}
 use Rattle.base.proofs.Tests.{same-or-not, below-or-not, cond-same, cond-other}
 
 -- ---- how often
@@ -36,6 +36,11 @@ count-part e i n xs = ap (countOf e) (take-add i n xs) ∙ count-append e (take 
 -- the first i elements and those from i to before k
 pub count-slice : (e i k : ℕ) (xs : List ℕ) → i ≤ k → countOf e (take k xs) ≡ countOf e (take i xs) + countOf e (slice i k xs)
 count-slice e i k xs h = rw (← take-take i k xs h, ← count-append, take-append-drop)
+
+-- none, where no element is equal to e
+pub count-none : (e : ℕ) (xs : List ℕ) → All (λ (x : ℕ). x ≡ e → ⊥) xs → countOf e xs ≡ 0
+count-none e [] a = refl
+count-none e (x ∷ xs) a = cond-other _ _ x e (a .0) ∙ count-none e xs (a .1)
 
 -- never more than there are elements
 pub count-most : (e : ℕ) (xs : List ℕ) → countOf e xs ≤ length xs

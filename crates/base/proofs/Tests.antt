@@ -37,6 +37,12 @@ module _ {ℓ} {A : Type ℓ} (x y : A) where
   pub cond-not-below : (a b : ℕ) → b ≤ a → cond (ltb a b) x y ≡ y
   cond-not-below a b h = ap (λ (t : Bool). cond t x y) (le-ltb a b h)
 
+  pub cond-most : (a b : ℕ) → a ≤ b → cond (leb a b) x y ≡ x
+  cond-most a b h = ap (λ (t : Bool). cond t x y) (le-leb a b h)
+
+  pub cond-above : (a b : ℕ) → b < a → cond (leb a b) x y ≡ y
+  cond-above a b h = ap (λ (t : Bool). cond t x y) (lt-leb a b h)
+
 -- both tests hold exactly if each does
 pub and-left : (a b : Bool) → a && b ≡ true → a ≡ true
 and-left true b e = refl

@@ -1,0 +1,57 @@
+// What the programs print of answers, bytes and ranks, to standard output.
+use base::Answer;
+use libc::STDOUT_FILENO;
+ghost use mathlib.Core.Path.{_≡_};
+ghost use Prim.Native.Nat.{_<_};
+ghost use Rattle.printing.specs.Digits.{digitOf};
+
+// The digit of a number below 16: 0 to 9, A to F.
+pub fn digit(n: usize) -> u8
+    requires { ⌜ n < 16 ⌝ }
+    ensures { λ r. ⌜ r ≡ digitOf n ⌝ }
+{
+    if n < 10 { 48 + n as u8 } else { 55 + n as u8 }
+}
+
+// Writes fixed words.
+pub fn words(text: &[u8]) {
+    io::write_all(STDOUT_FILENO, text);
+}
+
+// Writes a number in decimal.
+pub fn number(n: usize) {
+    io::print_decimal(STDOUT_FILENO, n as u64);
+}
+
+// Writes each byte as a blank and two hexadecimal digits.
+pub fn bytes(s: &[u8]) {
+    let mut i = 0;
+    while i < s.len() {
+        let b = s[i] as usize;
+        let text = [32u8, digit(b / 16), digit(b % 16)];
+        io::write_all(STDOUT_FILENO, &text);
+        i += 1;
+    }
+}
+
+// Writes each rank as a blank and the number in decimal.
+pub fn ranks(s: &[u32]) {
+    let mut i = 0;
+    while i < s.len() {
+        io::write_all(STDOUT_FILENO, b" ");
+        number(s[i] as usize);
+        i += 1;
+    }
+}
+
+// Writes an answer: the value of an accepted call, or the refusal and what is returned with it.
+pub fn answer(a: Answer) {
+    if a.refusal == 0 {
+        words(b"accepted ");
+    } else {
+        words(b"refused ");
+        number(a.refusal as usize);
+        words(b" with ");
+    }
+    number(a.value);
+}

@@ -1,0 +1,13 @@
+pub mod Numbers
+pub mod Through
+pub mod Paths
+pub mod Nodes
+pub mod Frequency
+pub mod Walks
+pub mod Reading
+pub mod GoodNodes
+pub mod Passing
+pub mod Visits
+pub mod Words
+pub mod Checks
+pub mod Theorem
