@@ -12,7 +12,7 @@ words-requires : tie.Need-words-requires
 words-requires c κs = search needs
 
 slice-aggregate-ranks : tie.Need-slice-aggregate-ranks
-slice-aggregate-ranks c = sym (length-take-le _ _ (c .before .before .before .before .if1 .taken))
+slice-aggregate-ranks c = sym (length-take-le _ _ (c .before .before .before .if1 .taken))
 
 ranks-requires : tie.Need-ranks-requires
 ranks-requires c κs = search needs
