@@ -1,13 +1,15 @@
 -- Laws of the numbers from a on: their images, what holds of all of them, and those that pass a test. Assumes nothing.
 use Prim.Native.Nat.{ℕ, zero, suc, _+_, _-_, _≤_, _<_}
 use mathlib.Core.Path.{_≡_, refl, sym, ap, _∙_}
-use mathlib.Core.Bool.{Bool, true, false, cond}
+use mathlib.Core.Logic.{_⊎_, inl, inr}
+use mathlib.Core.Bool.{false≢true, Bool, true, false, cond}
 use mathlib.Core.List.{List, [], _∷_, _++_, map, map-append}
 use native.Mathlib.Numerals.{add-one}
 use native.Mathlib.Omega.{arith}
 use lib.ListN.{length, getD, length-map}
 use lib.Seq.{ext-getD}
 use Rattle.base.specs.Lists.{All, allPass, filterBy, rangeFrom}
+use Rattle.base.proofs.Tests.{same-or-not, false-of}
 use Rattle.base.proofs.Lists.{all-at, all-of-at, all-of-pass, pass-of-all}
 
 pub length-range : (a n : ℕ) → length (rangeFrom a n) ≡ n
@@ -55,6 +57,18 @@ pub range-pass : (test : ℕ → Bool) (n : ℕ) → allPass test (rangeFrom 0 n
 range-pass test n h i l =
     let e : 0 + i ≡ i = omega arith in
     rw e at (range-all (λ (x : ℕ). test x ≡ true) 0 n (all-of-pass test (rangeFrom 0 n) h) i l)
+
+-- one that fails is enough
+pub range-fails : (test : ℕ → Bool) (n i : ℕ) → i < n → test i ≡ false → allPass test (rangeFrom 0 n) ≡ false
+range-fails test n i l e = false-of (allPass test (rangeFrom 0 n)) (λ h. false≢true (sym e ∙ range-pass test n h i l))
+
+-- and one more that passes
+pub pass-range-suc : (test : ℕ → Bool) (n : ℕ) → allPass test (rangeFrom 0 n) ≡ true → test n ≡ true → allPass test (rangeFrom 0 (n + 1)) ≡ true
+pass-range-suc test n h e = pass-range test (n + 1) (λ i l. go i (same-or-not i n) l)
+  where
+    go : (i : ℕ) → (i ≡ n) ⊎ (i ≡ n → ⊥) → i < n + 1 → test i ≡ true
+    go i (inl q) l = ap test q ∙ e
+    go i (inr d) l = range-pass test n h i (omega arith)
 
 -- ---- images
 

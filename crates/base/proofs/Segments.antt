@@ -3,10 +3,10 @@ use Prim.Native.Nat.{ℕ, zero, suc, _+_, _≤_, _<_}
 use mathlib.Core.Path.{_≡_, refl, sym, ap, ap₂, _∙_}
 use mathlib.Core.List.{List, [], _∷_, _++_, map, flatten, append-assoc}
 use native.Mathlib.Omega.{arith}
-use lib.ListN.{length, take, drop, getD, length-append, length-drop, take-append-drop}
+use lib.ListN.{length, take, drop, getD, length-append, length-drop, take-append-drop, List·getD-map}
 use lib.Seq.{take-append-seam, drop-append-seam, drop-drop, getD-take, getD-drop, length-take-le}
 use Rattle.base.specs.Lists.{All, total, segments}
-use Rattle.base.proofs.Lists.{all-append, all-front, all-back}
+use Rattle.base.proofs.Lists.{all-append, all-front, all-back, all-take, all-drop}
 
 -- ---- lists laid end to end
 
@@ -65,3 +65,15 @@ segment-at (n ∷ ns) xs (suc k) = segment-at ns (drop n xs) k ∙ ap (take (get
 pub segment-element : (ns xs : List ℕ) (k i : ℕ) → i < getD ns k 0 → getD (getD (segments ns xs) k []) i 0 ≡ getD xs (total (take k ns) + i) 0
 segment-element ns xs k i h =
     ap (λ (x : List ℕ). getD x i 0) (segment-at ns xs k) ∙ getD-take (getD ns k 0) (drop (total (take k ns)) xs) i 0 h ∙ getD-drop (total (take k ns)) xs i 0
+
+-- there are as many as lengths, and each has its length; past the last it is 0
+pub count-segments : (ns xs : List ℕ) → length (segments ns xs) ≡ length ns
+count-segments [] xs = refl
+count-segments (n ∷ ns) xs = ap suc (count-segments ns (drop n xs))
+
+pub segment-length : (ns xs : List ℕ) (k : ℕ) → total ns ≤ length xs → length (getD (segments ns xs) k []) ≡ getD ns k 0
+segment-length ns xs k h = sym (List·getD-map length (segments ns xs) k []) ∙ ap (λ (ms : List ℕ). getD ms k 0) (length-segments ns xs h)
+
+-- what holds of all elements holds of all of each segment
+pub all-segment : (P : ℕ → Type 0) (ns xs : List ℕ) (k : ℕ) → All P xs → All P (getD (segments ns xs) k [])
+all-segment P ns xs k a = rw (segment-at ns xs k) (all-take P (getD ns k 0) (drop (total (take k ns)) xs) (all-drop P (total (take k ns)) xs a))

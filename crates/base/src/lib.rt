@@ -14,6 +14,9 @@ pub const MAX_VOCABULARY: usize = 2113664;
 // The most words of a text.
 pub const MAX_WORDS: usize = 16777216;
 
+// The most bytes of a stream or of the nodes of a text: three for each word.
+pub const MAX_BYTES: usize = 50331648;
+
 // The most bytes of a superblock.
 pub const MAX_SUPERBLOCK: usize = 65535;
 

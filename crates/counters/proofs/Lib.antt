@@ -1,0 +1,4 @@
+pub mod More
+pub mod Sums
+pub mod Tables
+pub mod Turns

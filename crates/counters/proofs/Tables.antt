@@ -1,0 +1,126 @@
+-- The turns of the loops that write and compare a row, and of those that write and compare the rows of a table. Assumes nothing.
+use mathlib.Core.Path.{_≡_, refl, sym, ap, _∙_}
+use mathlib.Core.Bool.{Bool, true, false, _&&_}
+use mathlib.Core.List.{List, _++_, flatten}
+use Prim.Native.Nat.{ℕ, _+_, _*_, _≤_, _<_}
+use native.Mathlib.Numerals.{add-one}
+use native.Mathlib.Omega.{arith}
+use lib.Dec.{eqb}
+use lib.ListN.{length, getD, set, take, drop}
+use lib.Seq.{paste, paste-zero, paste-suc, length-paste, take-add, take-all}
+use Rattle.base.specs.Lists.{same}
+use Rattle.base.specs.Answers.{front}
+use Rattle.base.proofs.Lists.{same-more, same-true, same-false}
+use Rattle.directory.specs.Tables.{laid}
+use Rattle.directory.proofs.More.{laid-suc, laid-length, laid-row}
+use Rattle.counters.specs.Tallies.{Begins}
+use Rattle.counters.proofs.More.{front-length, take-front, front-of-take, front-over, front-paste, paste-next}
+
+-- ---- one row written
+
+-- the first x of 256 numbers are written to a row of a table, and the rest of the table is as it was
+pub record Put (table₀ : List ℕ) (row : ℕ) (s : List ℕ) (at : ℕ) (table : List ℕ) (x : ℕ) : Type 0 where
+  pub most : x ≤ 256
+  pub starts : at ≡ row * 256
+  pub pasted : table ≡ paste table₀ at s x
+
+module _ (table₀ : List ℕ) (row : ℕ) (s : List ℕ) where
+  -- at the start nothing is written
+  pub put-start : Put table₀ row s (row * 256) table₀ 0
+  put-start = record { most = omega arith; starts = refl; pasted = paste-zero table₀ (row * 256) s }
+
+  module _ (fits : (row + 1) * 256 ≤ length table₀) (long : length s ≡ 256) {at : ℕ} {table : List ℕ} {x : ℕ} (p : Put table₀ row s at table x) where
+    -- the table keeps its length
+    pub put-length : length table ≡ length table₀
+    put-length = ap length (p .pasted) ∙ length-paste table₀ at s x (omega (arith, p .most, p .starts)) (omega (arith, p .most))
+
+    -- the number that is written next is as it was
+    pub put-left : x < 256 → getD table (at + x) 0 ≡ getD table₀ (at + x) 0
+    put-left h = ap (λ (t : List ℕ). getD t (at + x) 0) (p .pasted) ∙ paste-next table₀ at s x (omega (arith, p .starts)) (omega arith)
+
+    -- one number more is written
+    pub put-next : (y : ℕ) → y ≡ getD s x 0 → x < 256 → Put table₀ row s at (set table (at + x) y) (x + 1)
+    put-next y e h = record {
+      most = omega arith;
+      starts = p .starts;
+      pasted = rw (p .pasted, e, add-one x) (paste-suc table₀ at s x 0 (omega (arith, p .starts)) (omega arith));
+    }
+
+  -- after 256 numbers the row is written
+  pub put-end : {at : ℕ} {table : List ℕ} {x : ℕ} → Put table₀ row s at table x → 256 ≤ x → table ≡ paste table₀ (row * 256) s 256
+  put-end {x = x} p h =
+      let e : x ≡ 256 = omega (arith, p .most) in
+      rw (← p .starts, ← e) (p .pasted)
+
+-- ---- one row compared
+
+-- whether the first x numbers of a row of a table are those of a list
+pub record Compared (table : List ℕ) (row : ℕ) (s : List ℕ) (at : ℕ) (equal : Bool) (x : ℕ) : Type 0 where
+  pub most : x ≤ 256
+  pub starts : at ≡ row * 256
+  pub so-far : equal ≡ same (take x (drop at table)) (take x s)
+
+module _ (table : List ℕ) (row : ℕ) (s : List ℕ) where
+  -- at the start nothing is compared
+  pub compared-start : Compared table row s (row * 256) true 0
+  compared-start = record { most = omega arith; starts = refl; so-far = refl }
+
+  module _ (fits : (row + 1) * 256 ≤ length table) (long : length s ≡ 256) {at : ℕ} {equal : Bool} {x : ℕ} (p : Compared table row s at equal x) where
+    -- one number more is compared
+    pub compared-next : (y : ℕ) → y ≡ getD s x 0 → x < 256 → Compared table row s at (equal && eqb (getD table (at + x) 0) y) (x + 1)
+    compared-next y e h = record {
+      most = omega arith;
+      starts = p .starts;
+      so-far = rw (p .so-far, e) (same-more table at s x (omega (arith, p .starts)) (omega arith));
+    }
+
+    -- after 256 numbers the row is compared
+    pub compared-end : 256 ≤ x → equal ≡ same (take 256 (drop (row * 256) table)) s
+    compared-end h =
+        let e : x ≡ 256 = omega (arith, p .most) in
+        let all : take 256 s ≡ s = take-all 256 s (omega arith) in
+        rw (e, p .starts, all) at (p .so-far)
+
+-- ---- the rows of a table
+
+-- a table begins with no row
+pub begins-none : (f : ℕ → List ℕ) (l : List ℕ) → Begins f 0 l
+unfolding flatten
+begins-none f l = refl
+
+module _ (f : ℕ → List ℕ) (wide : (r : ℕ) → length (f r) ≡ 256) where
+  -- n rows in front of a slice that has room for them leave its length
+  pub rows-length : (n : ℕ) (l : List ℕ) → n * 256 ≤ length l → length (front (laid f n) l) ≡ length l
+  rows-length n l h = front-length (laid f n) l (omega (arith, laid-length f 256 wide n))
+
+  -- one row more is written behind n rows
+  pub rows-put : (n : ℕ) (l table s : List ℕ) → table ≡ front (laid f n) l → s ≡ f n → paste table (n * 256) s 256 ≡ front (laid f (n + 1)) l
+  rows-put n l table s p q =
+      let e : paste (front (laid f n) l) (length (laid f n)) (f n) (length (f n)) ≡ front (laid f n ++ f n) l = front-paste (laid f n) (f n) l in
+      rw (p, q, add-one n, laid-suc f n) (rw (laid-length f 256 wide n, wide n) at e)
+
+  -- more rows over some of them
+  pub rows-over : (n m : ℕ) (l : List ℕ) → n ≤ m → front (laid f m) (front (laid f n) l) ≡ front (laid f m) l
+  rows-over n m l h = front-over (laid f n) (laid f m) l (omega (arith, laid-length f 256 wide n, laid-length f 256 wide m))
+
+  -- a table begins with the rows in front of it
+  pub begins-front : (n : ℕ) (l : List ℕ) → Begins f n (front (laid f n) l)
+  begins-front n l = rw (laid-length f 256 wide n) at (take-front (laid f n) l)
+
+  -- and a table that begins with rows has them in front
+  pub front-begins : (n : ℕ) (l : List ℕ) → Begins f n l → l ≡ front (laid f n) l
+  front-begins n l b = front-of-take (laid f n) l (rw (laid-length f 256 wide n) b)
+
+  -- one row more of a table is right
+  pub right-row : (n : ℕ) (l s : List ℕ) → Begins f n l → s ≡ f n → same (take 256 (drop (n * 256) l)) s ≡ true → Begins f (n + 1) l
+  right-row n l s b q e =
+      let m : (n + 1) * 256 ≡ n * 256 + 256 = omega arith in
+      rw (m, take-add (n * 256) 256 l, b, same-true (take 256 (drop (n * 256) l)) s e, q, add-one n) (sym (laid-suc f n))
+
+  -- a table of n rows, all of which are there, is the rows
+  pub begins-whole : (n : ℕ) (l : List ℕ) → length l ≡ n * 256 → Begins f n l → l ≡ laid f n
+  begins-whole n l e b = sym (take-all (n * 256) l (omega arith)) ∙ b
+
+  -- a row that is not right shows that a table is not the rows
+  pub wrong-row : (n r : ℕ) (l s : List ℕ) → r < n → s ≡ f r → same (take 256 (drop (r * 256) l)) s ≡ false → l ≡ laid f n → ⊥
+  wrong-row n r l s h e d q = same-false (take 256 (drop (r * 256) l)) s d (ap (λ (t : List ℕ). take 256 (drop (r * 256) t)) q ∙ laid-row f 256 wide n r h ∙ sym e)

@@ -1,0 +1,83 @@
+-- Laws of two tests, of quotients, of parts that end where the list does, and of lists of one width laid end to end. Assumes nothing.
+use mathlib.Core.Path.{_≡_, refl, sym, ap, _∙_}
+use mathlib.Core.Bool.{Bool, true, false, _||_, false≢true}
+use mathlib.Core.Logic.{_⊎_, inl, inr}
+use mathlib.Core.List.{List, [], _∷_, _++_, map, map-append, flatten, append-nil}
+use Prim.Native.Nat.{ℕ, zero, suc, _+_, _*_, _/_, _-_, _≤_, _<_, min}
+use native.Mathlib.Nat.{le-div-iff-mul-le, zero-mul, suc-mul}
+use native.Mathlib.Omega.{arith}
+use lib.ListN.{length, take, drop, getD, length-append, length-drop}
+use lib.Seq.{getD-take, getD-drop, take-at, drop-at, take-all}
+use Rattle.base.specs.Lists.{rangeFrom}
+use Rattle.base.proofs.Tests.{below-or-not}
+use Rattle.base.proofs.Ranges.{range-append, map-range-suc}
+use Rattle.base.proofs.Segments.{flatten-append}
+use Rattle.directory.specs.Tables.{laid}
+
+-- ---- tests
+
+-- where not one of two tests holds, neither does
+pub or-neither : (a b : Bool) → a || b ≡ false → (a ≡ false) × (b ≡ false)
+or-neither true b e = absurd (false≢true (sym e))
+or-neither false b e = (refl, e)
+
+-- ---- quotients
+
+-- r is among the numbers up to n / m where r × m is at most n
+pub quotient-inside : (n m r : ℕ) → 1 ≤ m → r * m ≤ n → r < suc (n / m)
+quotient-inside n m r p h =
+    let l : r ≤ n / m = le-div-iff-mul-le p .1 h in
+    omega arith
+
+-- and r × m is at most n where r is among them
+pub inside-quotient : (n m r : ℕ) → 1 ≤ m → r < suc (n / m) → r * m ≤ n
+inside-quotient n m r p h =
+    let l : r ≤ n / m = omega arith in
+    le-div-iff-mul-le p .0 l
+
+-- ---- parts
+
+-- the part of a list from s that ends after n elements or where the list ends
+pub part-cut : (xs : List ℕ) (s n stop : ℕ) → s ≤ length xs → stop ≡ min (s + n) (length xs) → take (stop - s) (drop s xs) ≡ take n (drop s xs)
+part-cut xs s n stop h e = go (below-or-not (s + n) (length xs))
+  where
+    go : (s + n < length xs) ⊎ (length xs ≤ s + n) → take (stop - s) (drop s xs) ≡ take n (drop s xs)
+    go (inl l) =
+        let m : stop - s ≡ n = omega arith in
+        rw m
+    go (inr g) = take-all (stop - s) (drop s xs) (rw length-drop (omega arith)) ∙ sym (take-all n (drop s xs) (rw length-drop (omega arith)))
+
+-- ---- lists of one width laid end to end
+
+module _ (f : ℕ → List ℕ) where
+  -- one list more
+  pub laid-suc : (n : ℕ) → laid f (suc n) ≡ laid f n ++ f n
+  unfolding flatten
+  laid-suc n = ap flatten (map-range-suc f n) ∙ flatten-append (map f (rangeFrom 0 n)) (f n ∷ []) ∙ ap (λ (l : List ℕ). laid f n ++ l) (append-nil (f n))
+
+  module _ (w : ℕ) (wide : (r : ℕ) → length (f r) ≡ w) where
+    -- n lists have n times the width
+    pub laid-length : (n : ℕ) → length (laid f n) ≡ n * w
+    unfolding flatten
+    laid-length zero = sym (zero-mul w)
+    laid-length (suc n) = ap length (laid-suc n) ∙ length-append (laid f n) (f n) ∙ omega (arith, laid-length n, wide n, suc-mul n w)
+
+    -- list r of n
+    pub laid-row : (n r : ℕ) → r < n → take w (drop (r * w) (laid f n)) ≡ f r
+    unfolding flatten
+    laid-row n r h =
+        let m : ℕ = n - suc r in
+        let e : n ≡ r + suc m = omega arith in
+        let z : 0 + r ≡ r = omega arith in
+        let rest : List ℕ = flatten (map f (rangeFrom (suc r) m)) in
+        let split : laid f n ≡ laid f r ++ (f r ++ rest) =
+        ap (laid f) e ∙ ap (λ (l : List ℕ). flatten (map f l)) (range-append 0 r (suc m))
+        ∙ ap flatten (map-append f (rangeFrom 0 r) (rangeFrom (0 + r) (suc m)))
+        ∙ flatten-append (map f (rangeFrom 0 r)) (map f (rangeFrom (0 + r) (suc m)))
+        ∙ ap (λ (k : ℕ). laid f r ++ flatten (map f (rangeFrom k (suc m)))) z in
+        ap (λ (l : List ℕ). take w (drop (r * w) l)) split ∙ ap (take w) (drop-at (laid f r) (f r ++ rest) (r * w) (laid-length r)) ∙ take-at (f r) rest w (wide r)
+
+    -- element x of list r
+    pub laid-at : (n r x : ℕ) → r < n → x < w → getD (laid f n) (r * w + x) 0 ≡ getD (f r) x 0
+    laid-at n r x h l =
+        sym (getD-take w (drop (r * w) (laid f n)) x 0 l ∙ getD-drop (r * w) (laid f n) x 0) ∙ ap (λ (xs : List ℕ). getD xs x 0) (laid-row n r h)

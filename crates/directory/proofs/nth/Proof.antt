@@ -1,0 +1,141 @@
+-- `directory::nth` meets its contract. The two searches find the block that holds the occurrence, and the scan its position in the block. Assumes nothing.
+use Prim.Native.Nat.{_+_, _*_, _-_}
+use mathlib.Core.Path.{_≡_}
+use native.Mathlib.Omega.{arith}
+use lib.ListN.{take}
+use borrow.Author.Needs.{needs}
+use Rattle.base.specs.Lists.{countOf, nth}
+use Rattle.base.proofs.Counts.{nth-most}
+use Rattle.directory.proofs.Rows.{rows-most, block-most, superblock-rows}
+use Rattle.directory.proofs.Searches.{Holds, position, superblock-holds, zero-most, first-inside, first-most, both-of, block-holds}
+use Rattle.directory.proofs.nth.Statement.{statement}
+use Rattle.directory.proofs.nth.Tie as tie
+
+-- what the superblock search finds
+in-superblock : (c : tie.After-search-superblocks) → let a = c .before .before .before .before .args in Holds (a .block * a .per) (a .bytes .now) (a .byte) (a .j) (c .search-superblocks .result)
+in-superblock c =
+    let s = c .before .before .before .before in
+    let a = s .args in
+    superblock-holds (s .pre .0) (s .pre .1) (a .byte) (a .j) (s .fits .byte .fits) (c .search-superblocks .result) (c .search-superblocks .ensures)
+
+-- what the block search finds
+in-block : (c : tie.After-search-blocks) → let a = c .before .before .before .before .before .before .before .args in Holds (a .block) (a .bytes .now) (a .byte) (a .j) (c .search-blocks .result)
+in-block c =
+    let s = c .before .before .before .before .before .before .before in
+    let a = s .args in
+    block-holds (s .pre .0) (s .pre .1) (a .byte) (a .j) (s .fits .byte .fits)
+    (in-superblock (c .before .before .before)) (c .before .least .result) (c .before .least .ensures) (c .search-blocks .result)
+    (rw (c .before .before .superblock-at .ensures) at (c .search-blocks .ensures))
+
+-- what is left of j for the scan
+left : (c : tie.After-block-at) → let a = c .before .before .before .before .before .before .before .before .args in a .j - c .before .before .before .superblock-at .result - c .block-at .result ≡ a .j - countOf (a .byte) (take (c .before .search-blocks .result * a .block) (a .bytes .now))
+left c =
+    let s = c .before .before .before .before .before .before .before .before in
+    let a = s .args in
+    let f = c .before .search-blocks .ensures in
+    let t = both-of (s .pre .0) (s .pre .1) (a .byte) (a .j) (s .fits .byte .fits)
+    (in-superblock (c .before .before .before .before)) (c .before .search-blocks .result) (f .from) (omega (arith, f .inside)) (in-block (c .before) .here) in
+    omega (arith, t)
+
+-- the answer
+found : (c : tie.After-scan) → let a = c .before .before .before .before .before .before .before .before .before .before .before .args in c .before .before .before .before .search-blocks .result * a .block + c .scan .result ≡ nth (a .byte) (a .j) (a .bytes .now)
+found c =
+    let a = c .before .before .before .before .before .before .before .before .before .before .before .args in
+    rw (c .scan .ensures, left (c .before .before .before))
+    (position (c .before .before .least2 .result) (in-block (c .before .before .before .before)) (c .before .before .least2 .ensures))
+
+search-superblocks-requires : tie.Need-search-superblocks-requires
+search-superblocks-requires c κs =
+    let s = c .before .before .before in
+    let a = s .args in
+    let rows = superblock-rows (s .pre .0) (s .pre .1) in
+    (omega (arith, rows), omega arith, zero-most (s .pre .0) (s .pre .1) (a .byte) (a .j) (s .fits .byte .fits))
+
+superblock-at-requires : tie.Need-superblock-at-requires
+superblock-at-requires c κs = search needs
+
+sub-left : tie.Need-sub-left
+sub-left c = search needs
+
+mul-first : tie.Need-mul-first
+mul-first c =
+    let s = c .before .before .before .before .before in
+    omega (arith, rows-most (s .pre .0) (c .before .search-superblocks .result) (in-superblock (c .before) .here))
+
+add-least : tie.Need-add-least
+add-least c =
+    let s = c .before .before .before .before .before in
+    omega (arith, rows-most (s .pre .0) (c .before .search-superblocks .result) (in-superblock (c .before) .here))
+
+least-requires : tie.Need-least-requires
+least-requires c κs = search needs
+
+search-blocks-requires : tie.Need-search-blocks-requires
+search-blocks-requires c κs =
+    let s = c .before .before .before .before .before .before in
+    let a = s .args in
+    let h = in-superblock (c .before .before) in (
+      first-inside (s .pre .0) (s .pre .1) (a .byte) (a .j) (s .fits .byte .fits) h (c .least .result) (c .least .ensures),
+      omega arith,
+      rw (c .before .superblock-at .ensures) (first-most (s .pre .0) (s .pre .1) (a .byte) (a .j) (s .fits .byte .fits) h),
+    )
+
+block-at-requires : tie.Need-block-at-requires
+block-at-requires c κs = search needs
+
+sub-rest : tie.Need-sub-rest
+sub-rest c = search needs
+
+mul-start : tie.Need-mul-start
+mul-start c = omega (arith, in-block (c .before) .here)
+
+add-least-2 : tie.Need-add-least-2
+add-least-2 c =
+    let s = c .before .before .before .before .before .before .before .before in
+    omega (arith, in-block (c .before) .here, s .pre .0 .bytes-most, block-most (s .pre .0))
+
+least-requires-2 : tie.Need-least-requires-2
+least-requires-2 c κs = search needs
+
+sub-scan : tie.Need-sub-scan
+sub-scan c = omega (arith, in-block (c .before .before) .here)
+
+part-scan-start : tie.Need-part-scan-start
+part-scan-start c = sub-scan c
+
+part-scan-end : tie.Need-part-scan-end
+part-scan-end c = search needs
+
+scan-requires : tie.Need-scan-requires
+scan-requires c κs = search needs
+
+add-result : tie.Need-add-result
+add-result c =
+    let a = c .before .before .before .before .before .before .before .before .before .before .before .args in
+    omega (arith, found c, nth-most (a .byte) (a .j) (a .bytes .now))
+
+returns : tie.Need-returns
+returns c = found c
+
+pub nth-spec : {M : Type 1} → statement M
+nth-spec =
+    tie.close
+    (tie.spec
+    search-superblocks-requires
+    superblock-at-requires
+    sub-left
+    mul-first
+    add-least
+    least-requires
+    search-blocks-requires
+    block-at-requires
+    sub-rest
+    mul-start
+    add-least-2
+    least-requires-2
+    sub-scan
+    part-scan-start
+    part-scan-end
+    scan-requires
+    add-result
+    returns)

@@ -1,0 +1,60 @@
+-- `directory::search_superblocks` meets its contract. The loop's invariant: row low has at most j, and row high, where it is before end, has more. Assumes nothing.
+use Prim.Native.Nat.{_-_}
+use native.Mathlib.Omega.{arith}
+use borrow.Author.Needs.{needs}
+use Rattle.directory.proofs.Searches.{Left, last-left}
+use Rattle.directory.proofs.search_superblocks.Statement.{statement}
+use Rattle.directory.proofs.search_superblocks.Tie as tie
+
+abbrev Inv-loop : tie.InvT-loop
+Inv-loop superblocks byte j first end low₀ high₀ low high = Left superblocks byte j first end low high
+
+abbrev μ-loop : tie.MeasureT-loop
+μ-loop superblocks byte j first end low₀ high₀ low high = high - low
+
+loop-holds : tie.Need-loop-holds Inv-loop μ-loop
+loop-holds c = search needs
+
+sub-loop : tie.Need-sub-loop Inv-loop μ-loop
+sub-loop c = search needs
+
+sub-middle : tie.Need-sub-middle Inv-loop μ-loop
+sub-middle c = search needs
+
+add-middle : tie.Need-add-middle Inv-loop μ-loop
+add-middle c = search needs
+
+superblock-at-requires : tie.Need-superblock-at-requires Inv-loop μ-loop
+superblock-at-requires c κs = search needs
+
+loop-less : tie.Need-loop-less Inv-loop μ-loop
+loop-less c = search needs
+
+loop-again : tie.Need-loop-again Inv-loop μ-loop
+loop-again c = search needs
+
+loop-less-2 : tie.Need-loop-less-2 Inv-loop μ-loop
+loop-less-2 c = search needs
+
+loop-again-2 : tie.Need-loop-again-2 Inv-loop μ-loop
+loop-again-2 c = search needs
+
+returns : tie.Need-returns Inv-loop μ-loop
+returns c = last-left (c .before .loop .inv) (omega arith)
+
+pub search-superblocks-spec : {M : Type 1} → statement M
+search-superblocks-spec =
+    tie.close
+    (tie.spec
+    Inv-loop
+    μ-loop
+    loop-holds
+    sub-loop
+    sub-middle
+    add-middle
+    superblock-at-requires
+    loop-less
+    loop-again
+    loop-less-2
+    loop-again-2
+    returns)

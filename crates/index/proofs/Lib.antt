@@ -1,0 +1,5 @@
+pub mod Limits
+pub mod Texts
+pub mod Passing
+pub mod Tested
+pub mod Exact

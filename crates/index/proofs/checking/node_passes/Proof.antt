@@ -1,0 +1,92 @@
+-- `index::checking::node_passes` meets its contract. The loop's invariant: the values passed may stand as often as they do. Assumes nothing.
+use Prim.Native.Nat.{ℕ, _+_, _*_, _≤_, _<_, _-_}
+use mathlib.Core.Path.{_≡_, refl, sym, ap, _∙_}
+use mathlib.Core.Bool.{true, false}
+use mathlib.Core.List.{List}
+use native.Mathlib.Omega.{arith}
+use borrow.Author.Tests.{not-true, not-false}
+use lib.ListN.{getD}
+use Rattle.base.specs.Lists.{allPass, rangeFrom, countOf}
+use Rattle.base.proofs.Ranges.{pass-range-suc}
+use Rattle.directory.proofs.Rows.{row-at}
+use Rattle.index.specs.Tests.{valueTest, nodePasses}
+use Rattle.index.proofs.Tested.{value-fails}
+use Rattle.index.proofs.checking.node_passes.Statement.{statement}
+use Rattle.index.proofs.checking.node_passes.Tie as tie
+use Rattle.index.proofs.checking.node_passes.Reads as reads
+use Rattle.index.proofs.checking.node_passes.Lts as lts
+use Rattle.index.proofs.checking.histogram.Reads as histogram-reads
+use Rattle.index.proofs.checking.value_passes.Reads as value-passes-reads
+
+abbrev Inv-loop : tie.InvT-loop
+Inv-loop s vocabulary lengths node part counts value₀ value = (value ≤ 256) × (allPass (λ (e : ℕ). valueTest s vocabulary lengths node e (countOf e part)) (rangeFrom 0 value) ≡ true)
+
+abbrev μ-loop : tie.MeasureT-loop
+μ-loop s vocabulary lengths node part counts value₀ value = 256 - value
+
+-- what is tested of a value is how often it stands in the node
+tested : (c : tie.After-value-passes Inv-loop μ-loop) → c .value-passes .result ≡ valueTest (c .before .before .before .before .before .before .args .s) (c .before .before .before .before .before .before .args .vocabulary) (c .before .before .before .before .before .before .args .lengths .now) (c .before .before .before .before .before .before .args .node) (c .before .before .loop .value) (countOf (c .before .before .loop .value) (c .before .before .before .before .before .before .args .part .now))
+tested c =
+    let a = c .before .before .before .before .before .before .args in
+    let e = c .before .before .loop .value in
+    c .value-passes .ensures
+    ∙ ap (valueTest (a .s) (a .vocabulary) (a .lengths .now) (a .node) e) (ap (λ (xs : List ℕ). getD xs e 0) (c .before .before .before .histogram .ensures) ∙ row-at (a .part .now) e (c .before .loop-test .taken))
+
+histogram-requires : tie.Need-histogram-requires Inv-loop μ-loop
+histogram-requires c κs = c .before .before .pre .2
+
+loop-holds : tie.Need-loop-holds Inv-loop μ-loop
+loop-holds c = (omega arith, refl)
+
+cast-value-passes : tie.Need-cast-value-passes Inv-loop μ-loop
+cast-value-passes c = omega arith
+
+mul-value-passes : tie.Need-mul-value-passes Inv-loop μ-loop
+mul-value-passes c = omega arith
+
+array-read-value-passes : tie.Need-array-read-value-passes Inv-loop μ-loop
+array-read-value-passes c = omega arith
+
+value-passes-requires : tie.Need-value-passes-requires Inv-loop μ-loop
+value-passes-requires c κs = (c .before .before .before .before .before .pre .0, c .before .before .before .before .before .pre .1)
+
+returns : tie.Need-returns Inv-loop μ-loop
+returns c = let a = c .before .before .before .before .before .before .before .args in
+    let e = c .before .before .before .loop .value in
+    sym (value-fails (a .s) (a .vocabulary) (a .lengths .now) (a .node) (a .part .now) e (c .before .before .loop-test .taken) (sym (tested (c .before)) ∙ not-true _ (c .if1 .taken)))
+
+add-value : tie.Need-add-value Inv-loop μ-loop
+add-value c = omega arith
+
+loop-less : tie.Need-loop-less Inv-loop μ-loop
+loop-less c = omega arith
+
+loop-again : tie.Need-loop-again Inv-loop μ-loop
+loop-again c = let a = c .before .before .before .before .before .before .before .args in
+    let loop = c .before .before .before .loop in
+    (omega arith, pass-range-suc (λ (e : ℕ). valueTest (a .s) (a .vocabulary) (a .lengths .now) (a .node) e (countOf e (a .part .now))) (loop .value) (loop .inv .1) (sym (tested (c .before)) ∙ not-false _ (c .if1 .left)))
+
+returns-2 : tie.Need-returns-2 Inv-loop μ-loop
+unfolding nodePasses
+returns-2 c = let a = c .before .before .before .before .before .args in
+    let loop = c .before .loop in
+    let end : loop .value ≡ 256 = omega arith in
+    sym (ap (λ (n : ℕ). allPass (λ (e : ℕ). valueTest (a .s) (a .vocabulary) (a .lengths .now) (a .node) e (countOf e (a .part .now))) (rangeFrom 0 n)) (sym end) ∙ loop .inv .1)
+
+pub node-passes-spec : {M : Type 1} → statement M
+node-passes-spec =
+    tie.close
+    (tie.spec
+    Inv-loop
+    μ-loop
+    histogram-requires
+    loop-holds
+    cast-value-passes
+    mul-value-passes
+    array-read-value-passes
+    value-passes-requires
+    returns
+    add-value
+    loop-less
+    loop-again
+    returns-2)

@@ -1,0 +1,4 @@
+pub mod Arrays
+pub mod Entries
+pub mod Exact
+pub mod Tests

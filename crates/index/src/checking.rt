@@ -1,0 +1,159 @@
+// Whether four slices are the index of some text.
+ghost use mathlib.Core.Path.{_≡_};
+ghost use mathlib.Core.Bool.{true};
+ghost use Prim.Native.Nat.{_+_, _≤_, _<_};
+ghost use lib.ListN.{length, getD, take, drop};
+ghost use Rattle.base.specs.Lists.{total};
+ghost use Rattle.dense.specs.Code.{Closing, maxVocabulary};
+ghost use Rattle.directory.specs.Counters.{row, maxBytes};
+ghost use Rattle.tree.specs.Nodes.{maxNodes};
+ghost use Rattle.index.specs.Arrays.{arrays, passes as arraysPass};
+ghost use Rattle.index.specs.Entries.{limitsRefusal};
+ghost use Rattle.index.specs.Exact.{WithinLimits};
+ghost use Rattle.index.specs.Tests.{valueTest, nodePasses, nodesPass};
+
+use base::refusal;
+use crate::Shape;
+
+// The number of the refusal that V, B or b outside their limits brings; 0 where they are within.
+pub fn limits(s: usize, shape: Shape) -> u32
+    requires { ⌜ Closing s ⌝ }
+    ensures { λ r. ⌜ r ≡ limitsRefusal s shape ⌝ }
+{
+    if shape.vocabulary < 1 {
+        return refusal::VOCABULARY;
+    }
+    if dense::max_vocabulary(s) < shape.vocabulary {
+        return refusal::VOCABULARY;
+    }
+    if shape.block < 1 {
+        return refusal::BLOCKS;
+    }
+    if shape.per_superblock < 1 {
+        return refusal::BLOCKS;
+    }
+    if base::MAX_SUPERBLOCK / shape.block < shape.per_superblock {
+        return refusal::BLOCKS;
+    }
+    0
+}
+
+// The sum of the node lengths.
+fn total_length(lengths: &[u32]) -> usize
+    requires { ⌜ length (now lengths) ≤ 65281 ⌝ }
+    ensures { λ r. ⌜ r ≡ total (now (lengths .entry)) ⌝ }
+{
+    let mut sum: usize = 0;
+    let mut node = 0;
+    while node < lengths.len() {
+        sum += lengths[node] as usize;
+        node += 1;
+    }
+    sum
+}
+
+// How often each byte value stands in a part.
+fn histogram(part: &[u8]) -> [u32; 256]
+    requires { ⌜ length (now part) ≤ maxBytes ⌝ }
+    ensures { λ r. ⌜ r ≡ row (now (part .entry)) ⌝ }
+{
+    let mut counts = [0u32; 256];
+    let mut i = 0;
+    while i < part.len() {
+        let x = part[i] as usize;
+        counts[x] += 1;
+        i += 1;
+    }
+    counts
+}
+
+// Whether a byte value may stand in a node as often as it does.
+fn value_passes(
+    s: usize,
+    vocabulary: usize,
+    lengths: &[u32],
+    node: usize,
+    value: u8,
+    count: u32,
+) -> bool
+    requires { ⌜ Closing s × (node < maxNodes s) ⌝ }
+    ensures { λ r. ⌜ r ≡ valueTest s vocabulary (now (lengths .entry)) node value count ⌝ }
+{
+    let least = 256 - s;
+    let byte = value as usize;
+    if least <= byte {
+        if count == 0 {
+            return true;
+        }
+        return s * node + (byte - least) < vocabulary;
+    }
+    let child = tree::child(s, node, value);
+    if child < lengths.len() {
+        return count == lengths[child];
+    }
+    count == 0
+}
+
+// Whether all byte values may stand in a node as often as they do in its bytes.
+fn node_passes(s: usize, vocabulary: usize, lengths: &[u32], node: usize, part: &[u8]) -> bool
+    requires { ⌜ Closing s × (node < maxNodes s) × (length (now part) ≤ maxBytes) ⌝ }
+    ensures { λ r. ⌜ r ≡ nodePasses s vocabulary (now (lengths .entry)) node (now (part .entry)) ⌝ }
+{
+    let counts = histogram(part);
+    let mut value: usize = 0;
+    while value < 256 {
+        if !value_passes(s, vocabulary, lengths, node, value as u8, counts[value]) {
+            return false;
+        }
+        value += 1;
+    }
+    true
+}
+
+// Whether all nodes pass, whose lengths make up the bytes.
+fn nodes_pass(s: usize, vocabulary: usize, lengths: &[u32], bytes: &[u8]) -> bool
+    requires { ⌜ Closing s × (length (now lengths) ≤ maxNodes s) × (length (now bytes) ≤ maxBytes) × (total (now lengths) ≡ length (now bytes)) ⌝ }
+    ensures { λ r. ⌜ r ≡ nodesPass s vocabulary (now (lengths .entry)) (now (bytes .entry)) ⌝ }
+{
+    let mut start: usize = 0;
+    let mut node = 0;
+    while node < lengths.len() {
+        let end = start + lengths[node] as usize;
+        if !node_passes(s, vocabulary, lengths, node, &bytes[start..end]) {
+            return false;
+        }
+        start = end;
+        node += 1;
+    }
+    true
+}
+
+// Whether the four slices are the index of some text of the vocabulary.
+pub fn passes(
+    s: usize,
+    shape: Shape,
+    lengths: &[u32],
+    bytes: &[u8],
+    superblocks: &[u32],
+    blocks: &[u16],
+) -> bool
+    requires { ⌜ Closing s × WithinLimits s shape ⌝ }
+    ensures { λ r. ⌜ r ≡ arraysPass s shape (arrays (now (lengths .entry)) (now (bytes .entry)) (now (superblocks .entry)) (now (blocks .entry))) ⌝ }
+{
+    if lengths.len() != tree::node_count(s, shape.vocabulary) {
+        return false;
+    }
+    if base::MAX_BYTES < bytes.len() {
+        return false;
+    }
+    if total_length(lengths) != bytes.len() {
+        return false;
+    }
+    if base::MAX_WORDS < lengths[0] as usize {
+        return false;
+    }
+    if !nodes_pass(s, shape.vocabulary, lengths, bytes) {
+        return false;
+    }
+    counters::verify(bytes, superblocks, blocks, shape.block, shape.per_superblock)
+}
