@@ -12,8 +12,8 @@ ghost use Rattle.directory.specs.Counters.{row as rowOf, superblockRow, blockRo
 ghost use Rattle.directory.specs.Tables.{laid};
 ghost use Rattle.counters.specs.Tallies.{sums, counters, blockBytes, endOf, Reached, Passed};
 
-// Adds to each of 256 counters how often its byte value stands in a part. Neighbours in the part are
-// counted in different lanes, so that a run of one value does not wait for its own last store.
+// Adds to each of 256 counters how often its byte value stands in a part, neighbours in different
+// lanes, so that a run of one value does not wait for its own last store.
 fn tally(part: &[u8], lanes: &mut [u16; 512])
     requires { ⌜ (length (now lanes) ≡ 512) × Below 65536 (sums (counters (now lanes)) (rowOf (now part))) ⌝ }
     ensures { λ _. ⌜ (length (now (lanes .exit)) ≡ 512) × (counters (now (lanes .exit)) ≡ sums (counters (now (lanes .entry))) (rowOf (now (part .entry)))) ⌝ }
@@ -122,8 +122,8 @@ fn rows_end(length: usize, block: usize, per: usize, superblock: usize) -> usize
     base::least(superblock * per + per, row_count(length, block))
 }
 
-// Writes the block rows of a superblock behind those before it, and makes the totals those of the
-// next superblock. The rest stays.
+// Writes the block rows of a superblock behind those before it, where the rest stays, and makes the
+// totals those of the next superblock.
 fn fill_superblock(
     bytes: &[u8],
     blocks: &mut [u16],

@@ -8,7 +8,7 @@ ghost use Rattle.base.specs.Lists.{countOf, nth as nthOf};
 ghost use Rattle.directory.specs.Counters.{Sizes, Directory};
 ghost use Rattle.directory.specs.Tables.{LastRow};
 
-// How often a byte stands in a part of at most 255 bytes. The count is a byte itself, so that many
+// How often a byte stands in a part of at most 255 bytes; the count is a byte itself, so that many
 // bytes are compared at once.
 fn count_few(part: &[u8], byte: u8) -> u8
     requires { ⌜ length (now part) ≤ 255 ⌝ }
@@ -39,8 +39,8 @@ pub fn count_in(part: &[u8], byte: u8) -> usize
     found
 }
 
-// The position in a block of the occurrence of a byte that has j others before it; the block's
-// length where there is none. No byte past the occurrence is read.
+// The position in a block of the occurrence of a byte that has j others before it, past which no
+// byte is read; the block's length where there is none.
 pub fn scan(block: &[u8], byte: u8, j: usize) -> usize
     ensures { λ r. ⌜ r ≡ nthOf byte j (now (block .entry)) ⌝ }
 {
@@ -58,14 +58,14 @@ pub fn scan(block: &[u8], byte: u8, j: usize) -> usize
     i
 }
 
-// The same number, wider.
+// A `u32` as a `usize`.
 fn widen_u32(number: u32) -> usize
     ensures { λ r. ⌜ r ≡ number ⌝ }
 {
     number as usize
 }
 
-// The same number, wider.
+// A `u16` as a `usize`.
 fn widen_u16(number: u16) -> usize
     ensures { λ r. ⌜ r ≡ number ⌝ }
 {
@@ -145,8 +145,8 @@ pub fn count_below(
     above + within + count_in(&bytes[start..i], byte)
 }
 
-// The position of the occurrence of a byte that has j others before it; the number of bytes where
-// there is none. A search in the superblock rows, one in the superblock's block rows, and the scan
+// The position of the occurrence of a byte that has j others before it, the number of bytes where
+// there is none: a search in the superblock rows, one in the superblock's block rows, and the scan
 // of one block.
 pub fn nth(
     bytes: &[u8],

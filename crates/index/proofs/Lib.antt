@@ -2,4 +2,5 @@ pub mod Limits
 pub mod Texts
 pub mod Passing
 pub mod Tested
+pub mod Verdicts
 pub mod Exact

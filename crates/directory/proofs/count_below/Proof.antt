@@ -20,8 +20,7 @@ inside : (c : tie.Start) → c .args .i / c .args .block * c .args .block ≤ le
 inside c = omega (arith, start c)
 
 -- the two numbers that are read count the bytes before the row
-both : (c : tie.After-block-at) → c .before .superblock-at .result + c .block-at .result
-    ≡ countOf (c .before .before .before .before .before .args .byte) (take (c .before .before .before .before .before .args .i / c .before .before .before .before .before .args .block * c .before .before .before .before .before .args .block) (c .before .before .before .before .before .args .bytes .now))
+both : (c : tie.After-block-at) → let a = c .before .before .before .before .before .args in c .before .superblock-at .result + c .block-at .result ≡ countOf (a .byte) (take (a .i / a .block * a .block) (a .bytes .now))
 both c =
     let s = c .before .before .before .before .before in
     let a = s .args in
@@ -29,8 +28,7 @@ both c =
     (both-are (s .pre .0) (s .pre .1) (a .i / a .block) (a .byte) (inside s) (s .fits .byte .fits))
 
 -- and with those of the block, the first i bytes
-all : (c : tie.After-count-in) → c .before .before .before .superblock-at .result + c .before .before .block-at .result + c .count-in .result
-    ≡ countOf (c .before .before .before .before .before .before .before .args .byte) (take (c .before .before .before .before .before .before .before .args .i) (c .before .before .before .before .before .before .before .args .bytes .now))
+all : (c : tie.After-count-in) → let a = c .before .before .before .before .before .before .before .args in c .before .before .before .superblock-at .result + c .before .before .block-at .result + c .count-in .result ≡ countOf (a .byte) (take (a .i) (a .bytes .now))
 all c =
     let a = c .before .before .before .before .before .before .before .args in
     let at = a .i / a .block * a .block in
