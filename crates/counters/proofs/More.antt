@@ -1,7 +1,7 @@
 -- Laws of a list written to the front of a slice, of one pasted over a part of a slice, and of neighbouring parts. Assumes nothing.
+use Prim.Native.Nat.{ℕ, suc, _+_, _-_, _≤_, _<_}
 use mathlib.Core.Path.{_≡_, refl, sym, ap, _∙_}
 use mathlib.Core.List.{List, _++_, append-assoc}
-use Prim.Native.Nat.{ℕ, suc, _+_, _-_, _≤_, _<_}
 use native.Mathlib.Omega.{arith}
 use lib.ListN.{length, getD, take, drop, length-append, length-take, length-drop, take-append-drop}
 use lib.Seq.{slice, paste, length-paste-head, take-take, take-add, take-all, take-append-seam, drop-append-add, drop-append-le, drop-drop, drop-cons, getD-at}

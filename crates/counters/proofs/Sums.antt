@@ -1,8 +1,8 @@
 -- Laws of 256 sums, of the counters in two lanes, and of the rows that they are. Assumes nothing.
+use Prim.Native.Nat.{ℕ, suc, _+_, _≤_, _<_}
 use mathlib.Core.Path.{_≡_, sym, ap, _∙_}
 use mathlib.Core.Logic.{_⊎_, inl, inr}
 use mathlib.Core.List.{List, [], _∷_, _++_}
-use Prim.Native.Nat.{ℕ, suc, _+_, _≤_, _<_}
 use native.Mathlib.Omega.{arith}
 use lib.ListN.{length, getD, set, drop, replicate, getD-replicate}
 use lib.Seq.{ext-getD, getD-drop, getD-set-same, getD-set-other}

@@ -1,8 +1,8 @@
 -- What the numbers of a directory say: of superblock row q, of block row r, and of the two together. Assumes nothing.
+use Prim.Native.Nat.{ℕ, suc, _+_, _*_, _/_, _≤_, _<_}
 use mathlib.Core.Path.{_≡_, sym, ap, _∙_}
 use mathlib.Core.Bool.{true, false, _||_}
 use mathlib.Core.List.{List, [], _∷_, flatten}
-use Prim.Native.Nat.{ℕ, suc, _+_, _*_, _/_, _≤_, _<_}
 use native.Mathlib.Nat.{le-trans, zero-div, div-mul-le-self, mul-le-mul-right, le-mul-of-pos-right, mul-pos, mul-assoc, mul-comm, add-mul, one-mul, suc-mul, mul-div-cancel, div-eq-of-lt-le}
 use native.Mathlib.Omega.{arith}
 use borrow.Author.Tests.{eqb-false, ltb-false}

@@ -1,24 +1,21 @@
 -- Demand 2: the index of a text and the text of an index give each other back. Assumes nothing.
-use Prim.Native.Nat.{ℕ, _≤_}
-use mathlib.Core.Path.{_≡_, refl, sym, ap, ap₂, _∙_, subst}
-use mathlib.Core.Bool.{Bool, true, false, not}
+use Prim.Native.Nat.{ℕ}
+use mathlib.Core.Path.{_≡_, refl, sym, ap, _∙_}
+use mathlib.Core.Bool.{true, false, not}
 use mathlib.Core.List.{List, [], _∷_}
-use borrow.Author.Tests.{eq-eqb, le-ltb, not-false}
-use lib.Dec.{ltb}
+use borrow.Author.Tests.{le-ltb, not-false}
 use lib.ListN.{length}
-use Rattle.base.specs.declared.Answer.{Answer}
-use Rattle.base.specs.Refusals.{refusalShortSlice, refusalIndex}
+use Rattle.base.specs.Refusals.{refusalShortSlice}
 use Rattle.base.specs.Answers.{accepted, refused, isAccepted, Case, _⇒_, NoneHolds, front, filled}
-use Rattle.base.specs.Texts.{maxWords, ranksBelow, wordsCase, rankCase}
+use Rattle.base.specs.Texts.{maxWords, wordsCase, rankCase}
 use Rattle.base.proofs.Answers.{none-holds, answers, filled-front}
 use Rattle.base.proofs.Texts.{test-of-below}
 use Rattle.dense.specs.Code.{Closing, vocabularyCase}
-use Rattle.dense.specs.Streams.{stream}
 use Rattle.directory.specs.Counters.{blocksCase}
 use Rattle.index.specs.declared.Shape.{Shape}
 use Rattle.index.specs.Arrays.{Arrays, arrays, indexOf, textIn, passes}
 use Rattle.index.specs.Entries.{isShorter, buildAnswer, buildExit, indexCases, checkAnswer}
-use Rattle.index.specs.Exact.{WithinLimits, IsText, HasIndex, IndexExact, IndexIsExact}
+use Rattle.index.specs.Exact.{WithinLimits, IsText, IndexIsExact}
 use Rattle.index.proofs.Limits.{limits-tested, tested-limits}
 use Rattle.index.proofs.Texts.{total-lengths, length-bytes}
 use Rattle.index.proofs.Passing.{index-text, passes-text, text-passes}
@@ -88,6 +85,6 @@ index-exact s shape within = record {
   );
   rebuilt = λ a e. let p = check-limits s within shape a e in passes-text s within shape (p .0 .mostWords) a (p .1);
   onlyOne = λ other same t u a limits h k.
-    sym (index-text s within shape (limits .mostWords) t a h)
-    ∙ index-text s within other (rw same (limits .mostWords)) u a k;
+      sym (index-text s within shape (limits .mostWords) t a h)
+      ∙ index-text s within other (rw same (limits .mostWords)) u a k;
 }

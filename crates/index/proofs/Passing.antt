@@ -1,22 +1,19 @@
 -- The check passes exactly the arrays that some text has as its index, and those are the ones whose lengths make up the bytes, whose nodes
 -- are good, whose root is no longer than a text, and whose counters are those of the bytes. Assumes nothing.
 use Prim.Native.Nat.{ℕ, _≤_}
-use mathlib.Core.Path.{_≡_, refl, sym, ap, ap₂, _∙_, subst}
-use mathlib.Core.Bool.{Bool, true, false, _&&_, false≢true}
-use mathlib.Core.List.{List, [], map, flatten}
+use mathlib.Core.Path.{_≡_, refl, sym, ap, _∙_, subst}
+use mathlib.Core.Bool.{true}
+use mathlib.Core.List.{List, map, flatten}
 use native.Mathlib.Omega.{arith}
-use borrow.Author.Tests.{eq-eqb, eqb-true, le-leb, leb-true}
-use lib.Dec.{eqb, leb}
-use lib.ListN.{length, getD, length-map}
-use Rattle.base.specs.Lists.{Below, total, same, segments}
+use lib.ListN.{length}
+use Rattle.base.specs.Lists.{total}
 use Rattle.base.specs.Texts.{maxWords, isText}
-use Rattle.base.proofs.Tests.{and-left, and-right, and-true, false-of}
-use Rattle.base.proofs.Lists.{same-yes, same-true}
+use Rattle.base.proofs.Tests.{and-left, and-right, and-true}
 use Rattle.base.proofs.Segments.{length-flatten, flatten-segments, length-segments}
 use Rattle.dense.specs.Code.{Closing, maxVocabulary}
-use Rattle.directory.specs.Counters.{superblockRows, blockRows, isDirectory}
-use Rattle.tree.specs.Nodes.{nodes, nodeCount, nodeBytes}
-use Rattle.tree.specs.Walks.{node, textOf, Good, goodTest}
+use Rattle.directory.specs.Counters.{superblockRows, blockRows}
+use Rattle.tree.specs.Nodes.{nodes}
+use Rattle.tree.specs.Walks.{node, textOf, Good}
 use Rattle.tree.proofs.Reading.{nodes-good, text-of-nodes}
 use Rattle.tree.proofs.Passing.{text-below, nodes-of-text}
 use Rattle.tree.proofs.Words.{length-of-text}

@@ -1,26 +1,26 @@
 -- The tests of the check, as the functions make them: the limits, the byte values of a node, the nodes. Assumes nothing.
-use Prim.Native.Nat.{ℕ, suc, _+_, _*_, _≤_, _<_}
+use Prim.Native.Nat.{ℕ, _+_, _≤_, _<_}
 use mathlib.Core.Path.{_≡_, refl, sym, ap, _∙_}
-use mathlib.Core.Bool.{Bool, true, false, cond, not, _||_, false≢true}
+use mathlib.Core.Bool.{Bool, true, false, not, _||_}
 use mathlib.Core.Logic.{_⊎_, inl, inr}
-use mathlib.Core.List.{List, [], _∷_, map}
+use mathlib.Core.List.{List, []}
 use native.Mathlib.Numerals.{add-one}
 use native.Mathlib.Omega.{arith}
 use borrow.Author.Tests.{eq-eqb, ne-eqb, eqb-true, lt-ltb, ltb-true}
 use lib.Dec.{eqb, ltb}
 use lib.ListN.{length, getD, set, take, length-set}
 use lib.Seq.{getD-set-same, getD-set-other}
-use Rattle.base.specs.Lists.{All, Below, allPass, rangeFrom, countOf, nth, total, segments}
+use Rattle.base.specs.Lists.{Below, allPass, rangeFrom, countOf, nth, total, segments}
 use Rattle.base.specs.Refusals.{refusalVocabulary, refusalBlocks, refusalIndex}
-use Rattle.base.specs.Answers.{accepted, refused, firstOf}
-use Rattle.base.specs.Texts.{maxSuperblock, outside}
-use Rattle.base.proofs.Tests.{same-or-not, below-or-not, cond-most, cond-above, or-left, or-right, or-false}
+use Rattle.base.specs.Answers.{accepted, refused}
+use Rattle.base.specs.Texts.{outside}
+use Rattle.base.proofs.Tests.{same-or-not, below-or-not, cond-most, cond-above, or-left, or-right}
 use Rattle.base.proofs.Lists.{all-at, all-of-at}
 use Rattle.base.proofs.Counts.{count-hit, count-miss, count-take-less, Found, nth-found}
 use Rattle.base.proofs.Ranges.{pass-range, range-pass, range-fails, map-range-is}
 use Rattle.base.proofs.Segments.{count-segments, segment-length, all-segment}
 use Rattle.base.proofs.Answers.{first-here, first-later, first-none}
-use Rattle.dense.specs.Code.{Closing, continuing, closes, maxVocabulary, vocabularyCase}
+use Rattle.dense.specs.Code.{continuing, closes, maxVocabulary, vocabularyCase}
 use Rattle.directory.specs.Counters.{row, blocksCase}
 use Rattle.directory.proofs.Rows.{row-length, row-at}
 use Rattle.tree.specs.Nodes.{child, nodeCount, rankIn}

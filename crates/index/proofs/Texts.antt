@@ -1,8 +1,8 @@
 -- The index of a text is read as the text, and has as many bytes as the text's stream. Assumes nothing.
 use Prim.Native.Nat.{ℕ, _≤_}
-use mathlib.Core.Path.{_≡_, refl, sym, ap, ap₂, _∙_}
-use mathlib.Core.Bool.{Bool, true, _&&_}
-use mathlib.Core.List.{List, map, flatten}
+use mathlib.Core.Path.{_≡_, sym, ap, _∙_}
+use mathlib.Core.Bool.{true, _&&_}
+use mathlib.Core.List.{List}
 use lib.ListN.{length}
 use Rattle.base.specs.Lists.{Below, same, total}
 use Rattle.base.specs.Texts.{isText}
@@ -18,7 +18,7 @@ use Rattle.tree.specs.Walks.{textOf}
 use Rattle.tree.proofs.Reading.{text-of-nodes}
 use Rattle.tree.proofs.Visits.{total-nodes}
 use Rattle.index.specs.declared.Shape.{Shape}
-use Rattle.index.specs.Arrays.{Arrays, arrays, bytesOf, lengthsOf, indexOf, nodesIn, textIn, sameArrays}
+use Rattle.index.specs.Arrays.{Arrays, bytesOf, lengthsOf, indexOf, nodesIn, textIn, sameArrays}
 use Rattle.index.specs.Exact.{IsText}
 
 -- the test of a text, as a fact

@@ -11,9 +11,8 @@ ghost use Rattle.index.specs.Arrays.{arrays, passes as arraysPass};
 ghost use Rattle.index.specs.Entries.{limitsRefusal};
 ghost use Rattle.index.specs.Exact.{WithinLimits};
 ghost use Rattle.index.specs.Tests.{valueTest, nodePasses, nodesPass};
-
-use base::refusal;
 use crate::Shape;
+use base::refusal;
 
 // The number of the refusal that V, B or b outside their limits brings; 0 where they are within.
 pub fn limits(s: usize, shape: Shape) -> u32
@@ -155,5 +154,11 @@ pub fn passes(
     if !nodes_pass(s, shape.vocabulary, lengths, bytes) {
         return false;
     }
-    counters::verify(bytes, superblocks, blocks, shape.block, shape.per_superblock)
+    counters::verify(
+        bytes,
+        superblocks,
+        blocks,
+        shape.block,
+        shape.per_superblock,
+    )
 }

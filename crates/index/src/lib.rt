@@ -9,7 +9,6 @@ ghost use mathlib.Core.Path.{_≡_};
 ghost use Rattle.dense.specs.Code.{Closing};
 ghost use Rattle.index.specs.Arrays.{arrays};
 ghost use Rattle.index.specs.Entries.{checkAnswer};
-
 use base::Answer;
 use base::refusal;
 

@@ -3,9 +3,9 @@ use Prim.Native.Nat.{ℕ, _+_, _<_, _-_}
 use mathlib.Core.Path.{_≡_, ap, _∙_}
 use mathlib.Core.List.{List, _++_, append-nil}
 use native.Mathlib.Omega.{arith}
+use borrow.Author.Needs.{needs}
 use lib.ListN.{getD, drop, drop-of-length-le}
 use lib.Seq.{take-all}
-use borrow.Author.Needs.{needs}
 use Rattle.counters.specs.Tallies.{sums, counters}
 use Rattle.counters.proofs.Sums.{below-at, sums-length, sums-at, counters-at, counter-fits}
 use Rattle.counters.proofs.Tables.{Put, put-start, put-left, put-next, put-end}

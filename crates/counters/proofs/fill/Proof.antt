@@ -3,8 +3,8 @@ use Prim.Native.Nat.{ℕ, suc, _*_, _/_, _-_}
 use mathlib.Core.Path.{_≡_, ap, _∙_}
 use mathlib.Core.List.{List}
 use native.Mathlib.Omega.{arith}
-use lib.ListN.{length}
 use borrow.Author.Needs.{needs}
+use lib.ListN.{length}
 use Rattle.base.specs.Answers.{front}
 use Rattle.directory.specs.Counters.{superblockRow, blockRow, superblockRows, blockRows}
 use Rattle.directory.specs.Tables.{laid}

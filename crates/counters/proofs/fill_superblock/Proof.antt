@@ -2,8 +2,8 @@
 use Prim.Native.Nat.{ℕ, _*_, _-_}
 use mathlib.Core.Path.{_≡_, ap, _∙_}
 use native.Mathlib.Omega.{arith}
-use lib.ListN.{length}
 use borrow.Author.Needs.{needs}
+use lib.ListN.{length}
 use Rattle.base.specs.Answers.{front}
 use Rattle.directory.specs.Counters.{blockRow}
 use Rattle.directory.specs.Tables.{laid}

@@ -5,9 +5,9 @@ use mathlib.Core.Logic.{_⊎_, inl, inr, ⊎-elim}
 use mathlib.Core.List.{List, [], _∷_}
 use native.Mathlib.Numerals.{add-one}
 use native.Mathlib.Omega.{arith}
+use borrow.Author.Needs.{needs}
 use lib.ListN.{length, getD, take, length-set}
 use lib.Seq.{take-suc, take-all}
-use borrow.Author.Needs.{needs}
 use Rattle.base.proofs.Tests.{below-or-not}
 use Rattle.base.proofs.Counts.{count-take-less}
 use Rattle.directory.specs.Counters.{row}

@@ -3,8 +3,8 @@ use Prim.Native.Nat.{ℕ, _*_, _-_}
 use mathlib.Core.Path.{_≡_, ap, _∙_}
 use mathlib.Core.List.{List}
 use native.Mathlib.Omega.{arith}
-use lib.ListN.{take, drop}
 use borrow.Author.Needs.{needs}
+use lib.ListN.{take, drop}
 use Rattle.directory.specs.Counters.{row}
 use Rattle.directory.proofs.More.{part-cut}
 use Rattle.counters.specs.Tallies.{sums, counters, blockBytes}

@@ -3,9 +3,9 @@ use Prim.Native.Nat.{suc, _*_, _/_, _-_}
 use mathlib.Core.Path.{_≡_, ap, sym, _∙_}
 use native.Mathlib.Nat.{div-le-self}
 use native.Mathlib.Omega.{arith}
-use lib.ListN.{length}
 use borrow.Author.Needs.{needs}
 use borrow.Author.Tests.{not-true, not-false}
+use lib.ListN.{length}
 use Rattle.directory.specs.Counters.{superblockRow, blockRow, superblockRows, blockRows}
 use Rattle.directory.proofs.Rows.{superblock-row-length, block-row-length, superblock-some, superblock-rows-length, block-rows-length, is-directory, not-directory}
 use Rattle.counters.specs.Tallies.{Begins}

@@ -3,9 +3,9 @@ use Prim.Native.Nat.{_/_, _-_, suc}
 use mathlib.Core.Path.{sym, _∙_}
 use mathlib.Core.Bool.{false≢true}
 use native.Mathlib.Omega.{arith}
-use lib.ListN.{length}
 use borrow.Author.Needs.{needs}
 use borrow.Author.Tests.{not-true, not-false}
+use lib.ListN.{length}
 use Rattle.directory.specs.Counters.{blockRow, blockRows}
 use Rattle.directory.proofs.Rows.{block-row-length}
 use Rattle.counters.specs.Tallies.{counters, Begins}

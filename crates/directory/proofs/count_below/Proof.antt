@@ -3,11 +3,11 @@ use Prim.Native.Nat.{_+_, _*_, _/_, _-_, _≤_}
 use mathlib.Core.Path.{_≡_}
 use native.Mathlib.Nat.{div-mul-le-self, le-trans}
 use native.Mathlib.Omega.{arith}
+use borrow.Author.Needs.{needs}
 use lib.ListN.{length, take}
 use Rattle.base.specs.Lists.{countOf}
 use Rattle.base.proofs.Counts.{count-take-most, count-part}
 use Rattle.directory.proofs.Rows.{start-before, superblock-inside, block-inside, both-are}
-use borrow.Author.Needs.{needs}
 use Rattle.directory.proofs.count_below.Statement.{statement}
 use Rattle.directory.proofs.count_below.Tie as tie
 

@@ -4,9 +4,9 @@ use mathlib.Core.Path.{_≡_, refl, ap, _∙_}
 use mathlib.Core.Logic.{⊎-elim}
 use native.Mathlib.Numerals.{add-one}
 use native.Mathlib.Omega.{arith}
+use borrow.Author.Needs.{needs}
 use lib.ListN.{length, take}
 use lib.Seq.{take-all}
-use borrow.Author.Needs.{needs}
 use Rattle.base.specs.Lists.{countOf}
 use Rattle.base.proofs.Counts.{count-hit, count-miss}
 use Rattle.directory.proofs.count_few.Statement.{statement}

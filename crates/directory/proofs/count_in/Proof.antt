@@ -2,9 +2,9 @@
 use Prim.Native.Nat.{_+_, _≤_, _-_}
 use mathlib.Core.Path.{_≡_, refl, ap, _∙_}
 use native.Mathlib.Omega.{arith}
+use borrow.Author.Needs.{needs}
 use lib.ListN.{length, take, drop, length-take}
 use lib.Seq.{take-all}
-use borrow.Author.Needs.{needs}
 use Rattle.base.specs.Lists.{countOf}
 use Rattle.base.proofs.Counts.{count-part, count-take-most}
 use Rattle.directory.proofs.count_in.Statement.{statement}

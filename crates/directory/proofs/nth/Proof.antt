@@ -2,8 +2,8 @@
 use Prim.Native.Nat.{_+_, _*_, _-_}
 use mathlib.Core.Path.{_≡_}
 use native.Mathlib.Omega.{arith}
-use lib.ListN.{take}
 use borrow.Author.Needs.{needs}
+use lib.ListN.{take}
 use Rattle.base.specs.Lists.{countOf, nth}
 use Rattle.base.proofs.Counts.{nth-most}
 use Rattle.directory.proofs.Rows.{rows-most, block-most, superblock-rows}

@@ -1,44 +1,46 @@
+-- `index::check_of` meets its contract: the limits decide, and then passing. Assumes nothing.
+use mathlib.Core.Path.{sym, ap, _∙_}
+use borrow.Author.Tests.{not-true, not-false}
 use borrow.Author.Needs.{needs}
+use Rattle.base.specs.Answers.{refused}
+use Rattle.index.specs.Arrays.{Arrays, arrays}
+use Rattle.index.specs.Exact.{WithinLimits}
+use Rattle.index.proofs.Tested.{limits-zero, check-refused, check-fails}
+use Rattle.index.proofs.Exact.{limits-check}
 use Rattle.index.proofs.check_of.Statement.{statement}
 use Rattle.index.proofs.check_of.Tie as tie
-use Rattle.index.proofs.check_of.Reads as reads
-use Rattle.index.proofs.check_of.Lts as lts
-use Rattle.base.proofs.Answer.accepted.Reads as accepted-reads
-use Rattle.base.proofs.Answer.refused.Reads as refused-reads
-use Rattle.index.proofs.checking.limits.Reads as limits-reads
-use Rattle.index.proofs.checking.passes.Reads as passes-reads
 
--- src/lib.rt:36:9
+-- the four slices
+abbrev four : tie.Start → Arrays
+four c = arrays (c .args .lengths .now) (c .args .bytes .now) (c .args .superblocks .now) (c .args .blocks .now)
+
+-- past the first test V, B and b are within their limits
+within : (c : tie.Else1) → WithinLimits (c .before .before .before .before .before .before .args .s) (c .before .before .before .before .before .before .args .shape)
+within c = limits-zero (c .before .before .before .before .before .before .args .s) (c .before .before .before .before .before .before .args .shape) (sym (c .before .limits .ensures) ∙ c .if1 .left)
+
 limits-requires : tie.Need-limits-requires
 limits-requires c κs = search needs
 
--- src/lib.rt:38:9
 refused-requires : tie.Need-refused-requires
 refused-requires c κs = search needs
 
--- src/lib.rt:38:9
 returns : tie.Need-returns
-returns c = ?
+returns c = c .refused .ensures ∙ ap refused (c .before .before .limits .ensures) ∙ sym (check-refused (c .before .before .before .before .before .before .before .args .s) (c .before .before .before .before .before .before .before .args .shape) (four (c .before .before .before .before .before .before .before)) (λ e. c .before .if1 .taken (c .before .before .limits .ensures ∙ e)))
 
--- src/lib.rt:40:9
 passes-requires : tie.Need-passes-requires
-passes-requires c κs = ?
+passes-requires c κs = (c .before .before .before .before .before .before .pre, within c)
 
--- src/lib.rt:41:9
 refused-requires-2 : tie.Need-refused-requires-2
 refused-requires-2 c κs = search needs
 
--- src/lib.rt:41:9
 returns-2 : tie.Need-returns-2
-returns-2 c = ?
+returns-2 c = c .refused2 .ensures ∙ sym (check-fails (c .before .before .before .before .before .before .before .before .before .args .s) (c .before .before .before .before .before .before .before .before .before .args .shape) (four (c .before .before .before .before .before .before .before .before .before)) (within (c .before .before .before)) (sym (c .before .before .passes .ensures) ∙ not-true _ (c .before .if2 .taken)))
 
--- src/lib.rt:43:5
 accepted-requires : tie.Need-accepted-requires
 accepted-requires c κs = search needs
 
--- src/lib.rt:25:1
 returns-3 : tie.Need-returns-3
-returns-3 c = ?
+returns-3 c = c .accepted .ensures ∙ sym (limits-check (c .before .before .before .before .before .before .before .before .before .args .s) (c .before .before .before .before .before .before .before .before .before .pre) (c .before .before .before .before .before .before .before .before .before .args .shape) (four (c .before .before .before .before .before .before .before .before .before)) (within (c .before .before .before)) (sym (c .before .before .passes .ensures) ∙ not-false _ (c .before .if2 .left)))
 
 pub check-of-spec : {M : Type 1} → statement M
 check-of-spec =

@@ -1,22 +1,17 @@
 -- `index::checking::histogram` meets its contract. The loop's invariant: the counters are those of the bytes passed. Assumes nothing.
-use lib.ListN.{set}
+use Prim.Native.Nat.{ℕ, _+_, _≤_, _<_, _-_}
 use mathlib.Core.List.{List}
-use Prim.Native.Nat.{ℕ}
-use Rattle.base.proofs.Counts.{count-take-most}
-use Prim.Native.Nat.{_+_, _*_, _≤_, _<_, _-_}
-use mathlib.Core.Path.{_≡_, refl, sym, ap, _∙_}
+use mathlib.Core.Path.{_≡_, sym, ap, _∙_}
 use native.Mathlib.Omega.{arith}
-use native.Mathlib.Numerals.{add-one}
 use borrow.Author.Needs.{needs}
-use lib.ListN.{length, take, getD}
+use lib.ListN.{set, length, take, getD}
 use lib.Seq.{take-all}
+use Rattle.base.proofs.Counts.{count-take-most}
 use Rattle.directory.specs.Counters.{row}
-use Rattle.directory.proofs.Rows.{row-length, row-at, row-none}
+use Rattle.directory.proofs.Rows.{row-at, row-none}
 use Rattle.index.proofs.Tested.{row-more}
 use Rattle.index.proofs.checking.histogram.Statement.{statement}
 use Rattle.index.proofs.checking.histogram.Tie as tie
-use Rattle.index.proofs.checking.histogram.Reads as reads
-use Rattle.index.proofs.checking.histogram.Lts as lts
 
 abbrev Inv-loop : tie.InvT-loop
 Inv-loop part counts₀ i₀ counts i = (i ≤ length part) × (counts ≡ row (take i part))

@@ -1,20 +1,17 @@
 -- `index::checking::limits` meets its contract, by the tests in their order. Assumes nothing.
-use Prim.Native.Nat.{_≤_, _<_, _*_}
+use Prim.Native.Nat.{_≤_}
 use mathlib.Core.Path.{_≡_, sym}
 use mathlib.Core.Bool.{false}
 use native.Mathlib.Omega.{arith}
 use native.Mathlib.Nat.{div-lt-iff-lt-mul, mul-comm, le-div-iff-mul-le}
-use Rattle.base.specs.Texts.{maxSuperblock, outside}
+use borrow.Author.Needs.{needs}
+use Rattle.base.specs.Texts.{outside}
 use Rattle.base.proofs.Tests.{inside-range, below-range, above-range}
 use Rattle.dense.specs.Code.{maxVocabulary}
 use Rattle.index.proofs.Limits.{no-block, no-per, superblock-long}
 use Rattle.index.proofs.Tested.{limits-vocabulary, limits-blocks, limits-none}
-use borrow.Author.Needs.{needs}
 use Rattle.index.proofs.checking.limits.Statement.{statement}
 use Rattle.index.proofs.checking.limits.Tie as tie
-use Rattle.index.proofs.checking.limits.Reads as reads
-use Rattle.index.proofs.checking.limits.Lts as lts
-use Rattle.dense.proofs.max_vocabulary.Reads as max-vocabulary-reads
 
 -- past its tests, the vocabulary is within its limits
 vocabulary-inside : (c : tie.Else2) → outside 1 (maxVocabulary (c .before .before .before .before .before .args .s)) (c .before .before .before .before .before .args .shape .vocabulary) ≡ false

@@ -1,7 +1,7 @@
 -- `index::checking::node_passes` meets its contract. The loop's invariant: the values passed may stand as often as they do. Assumes nothing.
-use Prim.Native.Nat.{ℕ, _+_, _*_, _≤_, _<_, _-_}
+use Prim.Native.Nat.{ℕ, _≤_, _-_}
 use mathlib.Core.Path.{_≡_, refl, sym, ap, _∙_}
-use mathlib.Core.Bool.{true, false}
+use mathlib.Core.Bool.{true}
 use mathlib.Core.List.{List}
 use native.Mathlib.Omega.{arith}
 use borrow.Author.Tests.{not-true, not-false}
@@ -13,10 +13,6 @@ use Rattle.index.specs.Tests.{valueTest, nodePasses}
 use Rattle.index.proofs.Tested.{value-fails}
 use Rattle.index.proofs.checking.node_passes.Statement.{statement}
 use Rattle.index.proofs.checking.node_passes.Tie as tie
-use Rattle.index.proofs.checking.node_passes.Reads as reads
-use Rattle.index.proofs.checking.node_passes.Lts as lts
-use Rattle.index.proofs.checking.histogram.Reads as histogram-reads
-use Rattle.index.proofs.checking.value_passes.Reads as value-passes-reads
 
 abbrev Inv-loop : tie.InvT-loop
 Inv-loop s vocabulary lengths node part counts value₀ value = (value ≤ 256) × (allPass (λ (e : ℕ). valueTest s vocabulary lengths node e (countOf e part)) (rangeFrom 0 value) ≡ true)

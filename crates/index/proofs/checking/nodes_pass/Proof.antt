@@ -1,14 +1,12 @@
 -- `index::checking::nodes_pass` meets its contract. The loop's invariant: the nodes passed pass, and the next starts where they end. Assumes nothing.
-use borrow.Author.Needs.{needs}
-use lib.ListN.{drop, length-take, length-drop}
-use Prim.Native.Nat.{ℕ, suc, _+_, _*_, _≤_, _<_, _-_}
+use Prim.Native.Nat.{ℕ, suc, _+_, _≤_, _-_}
 use mathlib.Core.Path.{_≡_, refl, sym, ap, _∙_}
-use mathlib.Core.Bool.{true, false}
-use mathlib.Core.List.{List, []}
+use mathlib.Core.Bool.{true}
+use mathlib.Core.List.{[]}
 use native.Mathlib.Omega.{arith}
 use native.Mathlib.Numerals.{add-one}
 use borrow.Author.Tests.{not-true, not-false}
-use lib.ListN.{length, take, getD}
+use lib.ListN.{drop, length-take, length-drop, length, take, getD}
 use Rattle.base.specs.Lists.{allPass, rangeFrom, total, segments}
 use Rattle.base.proofs.Ranges.{pass-range-suc}
 use Rattle.base.proofs.Sums.{total-take-suc, total-take-whole}
@@ -17,9 +15,6 @@ use Rattle.index.specs.Tests.{nodePasses, nodesPass}
 use Rattle.index.proofs.Tested.{node-fails}
 use Rattle.index.proofs.checking.nodes_pass.Statement.{statement}
 use Rattle.index.proofs.checking.nodes_pass.Tie as tie
-use Rattle.index.proofs.checking.nodes_pass.Reads as reads
-use Rattle.index.proofs.checking.nodes_pass.Lts as lts
-use Rattle.index.proofs.checking.node_passes.Reads as node-passes-reads
 
 abbrev Inv-loop : tie.InvT-loop
 Inv-loop s vocabulary lengths bytes start₀ node₀ start node = (node ≤ length lengths) × (start ≡ total (take node lengths)) × (allPass (λ (k : ℕ). nodePasses s vocabulary lengths k (getD (segments lengths bytes) k [])) (rangeFrom 0 node) ≡ true)
@@ -95,7 +90,7 @@ loop-again c = let a = c .before .before .before .before .before .before .before
     let loop = c .before .before .before .before .before .loop in (
       omega arith,
       sym (ap (λ (n : ℕ). total (take n (a .lengths .now))) (add-one (loop .node)) ∙ total-take-suc (a .lengths .now) (loop .node) (c .before .before .before .before .loop-test .taken)
-      ∙ ap (λ (n : ℕ). n + getD (a .lengths .now) (loop .node) 0) (sym (loop .inv .1))),
+          ∙ ap (λ (n : ℕ). n + getD (a .lengths .now) (loop .node) 0) (sym (loop .inv .1))),
       pass-range-suc (λ (k : ℕ). nodePasses (a .s) (a .vocabulary) (a .lengths .now) k (getD (segments (a .lengths .now) (a .bytes .now)) k [])) (loop .node) (loop .inv .2) (sym (tested (c .before)) ∙ not-false _ (c .if1 .left)),
     )
 

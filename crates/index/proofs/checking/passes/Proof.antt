@@ -1,60 +1,78 @@
+-- `index::checking::passes` meets its contract: a test that fails is one that arrays that pass meet, and past all of them the counters decide.
+-- Assumes nothing.
+use Prim.Native.Nat.{ℕ, _<_}
+use mathlib.Core.Path.{_≡_, sym, _∙_}
+use mathlib.Core.Bool.{true, false, false≢true}
+use native.Mathlib.Omega.{arith}
+use borrow.Author.Tests.{not-true, not-false}
 use borrow.Author.Needs.{needs}
+use lib.ListN.{length}
+use Rattle.base.specs.Lists.{Below}
+use Rattle.base.proofs.Lists.{all-of-at}
+use Rattle.tree.specs.Nodes.{nodeCount}
+use Rattle.tree.proofs.Numbers.{nodes-most, levels-most, node-below}
+use Rattle.index.specs.Arrays.{Arrays, arrays}
+use Rattle.index.proofs.Verdicts.{passes-number, passes-whole, passes-bytes, passes-root, passes-nodes, directory-decides, not-passing}
 use Rattle.index.proofs.checking.passes.Statement.{statement}
 use Rattle.index.proofs.checking.passes.Tie as tie
-use Rattle.index.proofs.checking.passes.Reads as reads
-use Rattle.index.proofs.checking.passes.Lts as lts
-use Rattle.counters.proofs.verify.Reads as verify-reads
-use Rattle.index.proofs.checking.nodes_pass.Reads as nodes-pass-reads
-use Rattle.index.proofs.checking.total_length.Reads as total-length-reads
-use Rattle.tree.proofs.node_count.Reads as node-count-reads
 
--- src/checking.rt:143:25
+-- the four slices
+abbrev four : tie.Start → Arrays
+four c = arrays (c .args .lengths .now) (c .args .bytes .now) (c .args .superblocks .now) (c .args .blocks .now)
+
+-- the elements of the byte slice are bytes
+bytes-of : (c : tie.After-node-count) → Below 256 (c .before .before .before .before .before .args .bytes .now)
+bytes-of c = all-of-at (λ (x : ℕ). x < 256) (c .before .before .before .before .before .args .bytes .now) 0 (λ i h. omega (arith, c .before .before .before .shared-slice-known2 .given i))
+
+-- past the first test there are N lengths, so there is one
+number : (c : tie.Else1) → length (c .before .before .before .before .before .before .args .lengths .now) ≡ nodeCount (c .before .before .before .before .before .before .args .s) (c .before .before .before .before .before .before .args .shape .vocabulary)
+number c = c .if1 .left ∙ c .before .node-count .ensures
+
+some : (c : tie.Else1) → 0 < length (c .before .before .before .before .before .before .args .lengths .now)
+some c = rw (number c) (node-below (c .before .before .before .before .before .before .args .s) (c .before .before .before .before .before .before .pre .0) (c .before .before .before .before .before .before .args .shape .vocabulary) 0 (omega (arith, c .before .before .before .before .before .before .pre .1 .someWord)))
+
 node-count-requires : tie.Need-node-count-requires
 node-count-requires c κs = search needs
 
--- src/checking.rt:144:9
 returns : tie.Need-returns
-returns c = ?
+returns c = not-passing (c .before .before .before .before .before .before .args .s) (c .before .before .before .before .before .before .pre .0) (c .before .before .before .before .before .before .args .shape) (c .before .before .before .before .before .before .pre .1 .mostWords) (four (c .before .before .before .before .before .before)) (λ e. c .if1 .taken (passes-number (c .before .before .before .before .before .before .args .s) (c .before .before .before .before .before .before .pre .0) (c .before .before .before .before .before .before .args .shape) (c .before .before .before .before .before .before .pre .1 .mostWords) (four (c .before .before .before .before .before .before)) e ∙ sym (c .before .node-count .ensures)))
 
--- src/checking.rt:147:9
 returns-2 : tie.Need-returns-2
-returns-2 c = ?
+returns-2 c = not-passing (c .before .before .before .before .before .before .before .args .s) (c .before .before .before .before .before .before .before .pre .0) (c .before .before .before .before .before .before .before .args .shape) (c .before .before .before .before .before .before .before .pre .1 .mostWords) (four (c .before .before .before .before .before .before .before)) (λ e. absurd (omega (arith, c .if2 .taken, passes-bytes (c .before .before .before .before .before .before .before .args .s) (c .before .before .before .before .before .before .before .pre .0) (c .before .before .before .before .before .before .before .args .shape) (c .before .before .before .before .before .before .before .pre .1 .mostWords) (four (c .before .before .before .before .before .before .before)) e)))
 
--- src/checking.rt:149:8
 total-length-requires : tie.Need-total-length-requires
-total-length-requires c κs = ?
+total-length-requires c κs = omega (arith, number (c .before), nodes-most (c .before .before .before .before .before .before .before .args .s) (c .before .before .before .before .before .before .before .pre .0) (c .before .before .before .before .before .before .before .args .shape .vocabulary) (c .before .before .before .before .before .before .before .pre .1 .mostWords), levels-most (c .before .before .before .before .before .before .before .args .s) (c .before .before .before .before .before .before .before .pre .0))
 
--- src/checking.rt:150:9
 returns-3 : tie.Need-returns-3
-returns-3 c = ?
+returns-3 c = not-passing (c .before .before .before .before .before .before .before .before .before .args .s) (c .before .before .before .before .before .before .before .before .before .pre .0) (c .before .before .before .before .before .before .before .before .before .args .shape) (c .before .before .before .before .before .before .before .before .before .pre .1 .mostWords) (four (c .before .before .before .before .before .before .before .before .before)) (λ e. c .if3 .taken (c .before .total-length .ensures ∙ passes-whole (c .before .before .before .before .before .before .before .before .before .args .s) (c .before .before .before .before .before .before .before .before .before .pre .0) (c .before .before .before .before .before .before .before .before .before .args .shape) (c .before .before .before .before .before .before .before .before .before .pre .1 .mostWords) (four (c .before .before .before .before .before .before .before .before .before)) e))
 
--- src/checking.rt:152:26
 shared-slice-read-if4 : tie.Need-shared-slice-read-if4
-shared-slice-read-if4 c = ?
+shared-slice-read-if4 c = some (c .before .before .before .before)
 
--- src/checking.rt:152:26
 cast-if4 : tie.Need-cast-if4
-cast-if4 c = ?
+cast-if4 c = omega (arith, c .shared-slice-known5 .given 0)
 
--- src/checking.rt:153:9
 returns-4 : tie.Need-returns-4
-returns-4 c = ?
+returns-4 c = not-passing (c .before .before .before .before .before .before .before .before .before .before .before .args .s) (c .before .before .before .before .before .before .before .before .before .before .before .pre .0) (c .before .before .before .before .before .before .before .before .before .before .before .args .shape) (c .before .before .before .before .before .before .before .before .before .before .before .pre .1 .mostWords) (four (c .before .before .before .before .before .before .before .before .before .before .before)) (λ e. absurd (omega (arith, c .if4 .taken, passes-root (c .before .before .before .before .before .before .before .before .before .before .before .args .s) (c .before .before .before .before .before .before .before .before .before .before .before .pre .0) (c .before .before .before .before .before .before .before .before .before .before .before .args .shape) (c .before .before .before .before .before .before .before .before .before .before .before .pre .1 .mostWords) (four (c .before .before .before .before .before .before .before .before .before .before .before)) e)))
 
--- src/checking.rt:155:9
 nodes-pass-requires : tie.Need-nodes-pass-requires
-nodes-pass-requires c κs = ?
+nodes-pass-requires c κs = let start = c .before .before .before .before .before .before .before .before .before .before .before in (
+  start .pre .0,
+  omega (arith, number (c .before .before .before .before .before), nodes-most (start .args .s) (start .pre .0) (start .args .shape .vocabulary) (start .pre .1 .mostWords)),
+  c .before .before .before .before .if2 .left,
+  sym (c .before .before .before .total-length .ensures) ∙ c .before .before .if3 .left,
+)
 
--- src/checking.rt:156:9
 returns-5 : tie.Need-returns-5
-returns-5 c = ?
+returns-5 c = not-passing (c .before .before .before .before .before .before .before .before .before .before .before .before .before .args .s) (c .before .before .before .before .before .before .before .before .before .before .before .before .before .pre .0) (c .before .before .before .before .before .before .before .before .before .before .before .before .before .args .shape) (c .before .before .before .before .before .before .before .before .before .before .before .before .before .pre .1 .mostWords) (four (c .before .before .before .before .before .before .before .before .before .before .before .before .before)) (λ e. false≢true (sym (sym (c .before .nodes-pass .ensures) ∙ not-true _ (c .if5 .taken)) ∙ passes-nodes (c .before .before .before .before .before .before .before .before .before .before .before .before .before .args .s) (c .before .before .before .before .before .before .before .before .before .before .before .before .before .pre .0) (c .before .before .before .before .before .before .before .before .before .before .before .before .before .args .shape) (c .before .before .before .before .before .before .before .before .before .before .before .before .before .pre .1 .mostWords) (four (c .before .before .before .before .before .before .before .before .before .before .before .before .before)) e (bytes-of (c .before .before .before .before .before .before .before .before))))
 
--- src/checking.rt:158:5
 verify-requires : tie.Need-verify-requires
 verify-requires c κs = search needs
 
--- src/checking.rt:132:1
 returns-6 : tie.Need-returns-6
-returns-6 c = ?
+returns-6 c = c .verify .ensures
+    ∙ directory-decides (c .before .before .before .before .before .before .before .before .before .before .before .before .before .before .args .s) (c .before .before .before .before .before .before .before .before .before .before .before .before .before .before .pre .0) (c .before .before .before .before .before .before .before .before .before .before .before .before .before .before .args .shape) (c .before .before .before .before .before .before .before .before .before .before .before .before .before .before .pre .1 .mostWords) (four (c .before .before .before .before .before .before .before .before .before .before .before .before .before .before)) (bytes-of (c .before .before .before .before .before .before .before .before .before)) (number (c .before .before .before .before .before .before .before .before)) (sym (c .before .before .before .before .before .before .total-length .ensures) ∙ c .before .before .before .before .before .if3 .left) (c .before .before .before .if4 .left)
+    (sym (c .before .before .nodes-pass .ensures) ∙ not-false _ (c .before .if5 .left))
 
 pub passes-spec : {M : Type 1} → statement M
 passes-spec =

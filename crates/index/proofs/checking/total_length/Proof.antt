@@ -1,6 +1,6 @@
 -- `index::checking::total_length` meets its contract. The loop's invariant: the lengths passed are summed up. Assumes nothing.
-use Prim.Native.Nat.{_+_, _*_, _≤_, _<_, _-_}
-use mathlib.Core.Path.{_≡_, refl, sym, ap, _∙_}
+use Prim.Native.Nat.{_+_, _*_, _≤_, _-_}
+use mathlib.Core.Path.{_≡_, sym, ap, _∙_}
 use native.Mathlib.Omega.{arith}
 use native.Mathlib.Numerals.{add-one}
 use borrow.Author.Needs.{needs}
@@ -10,8 +10,6 @@ use Rattle.base.specs.Lists.{total}
 use Rattle.base.proofs.Sums.{total-take-suc}
 use Rattle.index.proofs.checking.total_length.Statement.{statement}
 use Rattle.index.proofs.checking.total_length.Tie as tie
-use Rattle.index.proofs.checking.total_length.Reads as reads
-use Rattle.index.proofs.checking.total_length.Lts as lts
 
 abbrev Inv-loop : tie.InvT-loop
 Inv-loop lengths sum₀ node₀ sum node = (node ≤ length lengths) × (sum ≤ 4294967295 * node) × (sum ≡ total (take node lengths))

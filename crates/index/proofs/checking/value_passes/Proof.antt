@@ -1,22 +1,19 @@
 -- `index::checking::value_passes` meets its contract, by the kind of the value. Assumes nothing.
 use Prim.Native.Nat.{_≤_, _*_}
-use mathlib.Core.Path.{_≡_, sym, ap, _∙_}
+use mathlib.Core.Path.{sym, ap, _∙_}
 use mathlib.Core.Bool.{Bool, _||_}
 use native.Mathlib.Omega.{arith}
 use native.Mathlib.Nat.{mul-le-mul}
 use borrow.Author.Tests.{eq-eqb, ne-eqb}
+use borrow.Author.Needs.{needs}
 use lib.Dec.{eqb, ltb}
 use lib.ListN.{getD, List·getD-eq-default}
 use Rattle.base.proofs.Tests.{or-left}
-use Rattle.tree.specs.Nodes.{rankIn, maxNodes}
+use Rattle.tree.specs.Nodes.{rankIn}
 use Rattle.tree.proofs.Numbers.{levels-most}
 use Rattle.index.proofs.Tested.{value-continuing, value-closing}
-use borrow.Author.Needs.{needs}
 use Rattle.index.proofs.checking.value_passes.Statement.{statement}
 use Rattle.index.proofs.checking.value_passes.Tie as tie
-use Rattle.index.proofs.checking.value_passes.Reads as reads
-use Rattle.index.proofs.checking.value_passes.Lts as lts
-use Rattle.tree.proofs.child.Reads as child-reads
 
 -- the first rank of a node is a small number
 small-rank : (c : tie.Else2) → c .before .before .before .args .s * c .before .before .before .args .node ≤ 255 * 65281
