@@ -145,7 +145,8 @@ pub fn passes(
     if base::MAX_BYTES < bytes.len() {
         return false;
     }
-    if total_length(lengths) != bytes.len() {
+    let sum = total_length(lengths);
+    if sum != bytes.len() {
         return false;
     }
     if base::MAX_WORDS < lengths[0] as usize {

@@ -1,0 +1,10 @@
+pub mod More
+pub mod Hits
+pub mod Pages
+pub mod Runs
+pub mod Complete
+pub mod Filling
+pub mod Along
+pub mod Searching
+pub mod Counting
+pub mod Samples

@@ -1,0 +1,4 @@
+pub mod Hits
+pub mod Pages
+pub mod Runs
+pub mod Samples

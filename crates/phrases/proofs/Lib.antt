@@ -1,0 +1,8 @@
+pub mod More
+pub mod Standing
+pub mod Anchors
+pub mod Offsets
+pub mod Mirror
+pub mod Neighbours
+pub mod Exact
+pub mod Samples

@@ -1,0 +1,84 @@
+-- Neighbours, counted along the occurrences of one of the two words. Assumes nothing.
+use Prim.Native.Nat.{ℕ, _+_, _-_, _<_}
+use mathlib.Core.Path.{_≡_, refl, ap, _∙_}
+use mathlib.Core.Bool.{Bool, true, false, cond, _&&_}
+use mathlib.Core.List.{List, map}
+use native.Mathlib.Nat.{sub-zero}
+use native.Mathlib.Omega.{arith}
+use borrow.Author.Tests.{ltb-true, lt-ltb, eqb-true, eq-eqb}
+use lib.Dec.{eqb, ltb}
+use lib.IntN.{ℤ, pos, negsuc, _+ℤ_, negℤ}
+use lib.ListN.{length, getD}
+use Rattle.base.specs.Lists.{filterBy, rangeFrom, countOf, nth}
+use Rattle.base.proofs.Tests.{and-left, and-right}
+use Rattle.base.proofs.Ranges.{map-range-same}
+use Rattle.phrases.specs.declared.Found.the-variants.{At, Outside}
+use Rattle.phrases.specs.Neighbours.{standsAt, neighbourAt, neighbours}
+use Rattle.phrases.specs.Offsets.{placeWithin, shiftedOf}
+use Rattle.phrases.specs.Anchors.{Anchored, candidate, firstCandidate}
+use Rattle.phrases.proofs.Anchors.{candidates-between, first-past}
+use Rattle.phrases.proofs.Mirror.{mirror}
+
+-- a pair has its first word for an anchor
+pub neighbour-anchored : (t : List ℕ) (w v : ℕ) (d : ℤ) → Anchored t w 0 (neighbourAt t w v d)
+unfolding neighbourAt standsAt
+neighbour-anchored t w v d = record { inside = λ q e. omega (arith, below q e); word = λ q e. word q e }
+  where
+    below : (q : ℕ) → neighbourAt t w v d q ≡ true → q < length t
+    below q e = ltb-true q (length t) (and-left (ltb q (length t)) (eqb (getD t q 0) w) (and-left (standsAt t w (pos q)) (standsAt t v (pos q +ℤ d)) e))
+
+    word : (q : ℕ) → neighbourAt t w v d q ≡ true → getD t (q + 0) 0 ≡ w
+    word q e =
+        let z : q + 0 ≡ q = omega arith in
+        rw z (eqb-true (getD t q 0) w (and-right (ltb q (length t)) (eqb (getD t q 0) w) (and-left (standsAt t w (pos q)) (standsAt t v (pos q +ℤ d)) e)))
+
+-- the pairs of w and v, along the occurrences of w
+pub neighbours-along : (t : List ℕ) (w v : ℕ) (d : ℤ)
+    → neighbours t w v d ≡ length (filterBy (neighbourAt t w v d) (map (λ (j : ℕ). nth w j t) (rangeFrom 0 (countOf w t))))
+unfolding neighbours
+neighbours-along t w v d =
+    let P : ℕ → Bool = neighbourAt t w v d in
+    let z : 0 + 0 ≡ 0 = omega arith in
+    ap length
+    {y = filterBy P (map (λ (j : ℕ). nth w j t) (rangeFrom 0 (countOf w t)))}
+    (candidates-between t w 0 P (neighbour-anchored t w v d) 0 (length t)
+    ∙ ap (λ (m : ℕ). filterBy P (map (candidate t w 0) (rangeFrom (firstCandidate t w 0 0) (m - firstCandidate t w 0 0)))) (first-past t w 0 (0 + length t) (omega arith))
+    ∙ simp (z, sub-zero) (ap (filterBy P) (map-range-same (candidate t w 0) (λ (j : ℕ). nth w j t) (countOf w t) (λ j h. sub-zero (nth w j t)))))
+
+-- the same number, along the occurrences of v with the offset negated
+pub neighbours-mirrored : (t : List ℕ) (w v : ℕ) (d : ℤ)
+    → neighbours t w v d ≡ length (filterBy (neighbourAt t v w (negℤ d)) (map (λ (j : ℕ). nth v j t) (rangeFrom 0 (countOf v t))))
+neighbours-mirrored t w v d = mirror t w v d ∙ neighbours-along t v w (negℤ d)
+
+-- at a place with w, the place moved by the offset decides
+module _ (t : List ℕ) (w v : ℕ) (d : ℤ) (q : ℕ) (inside : q < length t) (word : getD t q 0 ≡ w) where
+  -- w stands there
+  here : standsAt t w (pos q) ≡ true
+  unfolding standsAt
+  here = rw (lt-ltb q (length t) inside, eq-eqb (getD t q 0) w word)
+
+  -- a place inside the text decides by its word
+  pub neighbour-at : (p : ℕ) → shiftedOf q d (length t) ≡ At p → neighbourAt t w v d q ≡ eqb (getD t p 0) v
+  unfolding standsAt neighbourAt shiftedOf
+  neighbour-at p e = rw here (by (pos q +ℤ d) e)
+    where
+      by : (z : ℤ) → placeWithin z (length t) ≡ At p → standsAt t v z ≡ eqb (getD t p 0) v
+      by (pos k) e = go (ltb k (length t)) e
+        where
+          go : (b : Bool) → cond b (At k) Outside ≡ At p → b && eqb (getD t k 0) v ≡ eqb (getD t p 0) v
+          go true e = let s : k ≡ p = cc in ap (λ (m : ℕ). eqb (getD t m 0) v) s
+          go false e = let z : _≡_ {A = ℕ} 0 1 = cc in absurd (omega arith)
+      by (negsuc k) e = let z : _≡_ {A = ℕ} 0 1 = cc in absurd (omega arith)
+
+  -- a place outside the text has no word
+  pub neighbour-outside : shiftedOf q d (length t) ≡ Outside → neighbourAt t w v d q ≡ false
+  unfolding standsAt neighbourAt shiftedOf
+  neighbour-outside e = rw here (by (pos q +ℤ d) e)
+    where
+      by : (z : ℤ) → placeWithin z (length t) ≡ Outside → standsAt t v z ≡ false
+      by (pos k) e = go (ltb k (length t)) e
+        where
+          go : (b : Bool) → cond b (At k) Outside ≡ Outside → b && eqb (getD t k 0) v ≡ false
+          go true e = let z : _≡_ {A = ℕ} 0 1 = cc in absurd (omega arith)
+          go false e = refl
+      by (negsuc k) e = refl
