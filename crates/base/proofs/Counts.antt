@@ -54,6 +54,13 @@ count-most e (x ∷ xs) = go (eqb x e) (count-most e xs)
 pub count-take-most : (e i : ℕ) (xs : List ℕ) → countOf e (take i xs) ≤ length xs
 count-take-most e i xs = omega (arith, count-most e (take i xs), length-take i xs)
 
+-- a front has at most as many of an element as a longer front, and as the whole list
+pub count-take-rises : (e i k : ℕ) (xs : List ℕ) → i ≤ k → countOf e (take i xs) ≤ countOf e (take k xs)
+count-take-rises e i k xs h = omega (arith, count-slice e i k xs h)
+
+pub count-take-whole : (e i : ℕ) (xs : List ℕ) → countOf e (take i xs) ≤ countOf e xs
+count-take-whole e i xs = omega (arith, ap (countOf e) (take-append-drop i xs), count-append e (take i xs) (drop i xs))
+
 -- below an e there are fewer e than in the whole
 pub count-take-less : (e : ℕ) (xs : List ℕ) (i : ℕ) → i < length xs → getD xs i 0 ≡ e → countOf e (take i xs) < countOf e xs
 count-take-less e [] i h q = absurd (omega arith)

@@ -2,6 +2,9 @@ pub mod Tests
 pub mod Lists
 pub mod Counts
 pub mod Ranges
+pub mod Members
+pub mod Filters
+pub mod Parts
 pub mod Sums
 pub mod Segments
 pub mod Cuts

@@ -1,5 +1,5 @@
 -- Laws of all elements of a list, of the first that passes a test, of equal lists, and of images. Assumes nothing.
-use Prim.Native.Nat.{ℕ, zero, suc, _+_, _≤_, _<_, min}
+use Prim.Native.Nat.{ℕ, zero, suc, _+_, _≤_, _<_}
 use mathlib.Core.Path.{_≡_, refl, sym, ap, ap₂, _∙_}
 use mathlib.Core.Bool.{Bool, true, false, cond, _&&_, not, false≢true}
 use mathlib.Core.List.{List, [], _∷_, _++_, map}
@@ -7,7 +7,7 @@ use native.Mathlib.Numerals.{add-one}
 use native.Mathlib.Omega.{arith}
 use borrow.Author.Tests.{eq-eqb, eqb-true}
 use lib.Dec.{eqb}
-use lib.ListN.{length, take, drop, getD, length-take, length-drop}
+use lib.ListN.{length, take, drop, getD, length-drop}
 use lib.Seq.{getD-drop}
 use Rattle.base.specs.Lists.{All, Below, allPass, firstWhere, same}
 use Rattle.base.proofs.Tests.{and-left, and-right, and-true, false-of}
@@ -167,7 +167,3 @@ map-map {C = C} f g (x ∷ xs) = ap (λ (r : List C). f (g x) ∷ r) (map-map f 
 pub map-all {ℓ κ} : {A : Type ℓ} {B : Type κ} (P : A → Type 0) (f g : A → B) → ((x : A) → P x → f x ≡ g x) → (xs : List A) → All P xs → map f xs ≡ map g xs
 map-all P f g h [] a = refl
 map-all {B = B} P f g h (x ∷ xs) a = ap₂ {C = List B} (λ (y : B) (r : List B). y ∷ r) (h x (a .0)) (map-all P f g h xs (a .1))
-
--- the part of a list from s that ends after n elements or where the list ends
-pub part-to-end : (xs : List ℕ) (s n stop : ℕ) → s ≤ length xs → stop ≡ min (s + n) (length xs) → s + length (take n (drop s xs)) ≡ stop
-part-to-end xs s n stop h e = omega (arith, length-take n (drop s xs), length-drop s xs)

@@ -59,6 +59,11 @@ and-true a b p q = ap₂ _&&_ p q
 pub or-false : (a b : Bool) → a ≡ false → b ≡ false → a || b ≡ false
 or-false a b p q = ap₂ _||_ p q
 
+-- where not one of two tests holds, neither does
+pub or-neither : (a b : Bool) → a || b ≡ false → (a ≡ false) × (b ≡ false)
+or-neither true b e = absurd (false≢true (sym e))
+or-neither false b e = (refl, e)
+
 pub or-left : (a b : Bool) → a ≡ true → a || b ≡ true
 or-left a b p = ap (λ (t : Bool). t || b) p
 

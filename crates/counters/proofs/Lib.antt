@@ -1,4 +1,3 @@
-pub mod More
 pub mod Sums
 pub mod Tables
 pub mod Turns

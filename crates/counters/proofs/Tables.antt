@@ -12,9 +12,9 @@ use Rattle.base.specs.Lists.{same}
 use Rattle.base.specs.Answers.{front}
 use Rattle.base.proofs.Lists.{same-more, same-true, same-false}
 use Rattle.directory.specs.Tables.{laid}
-use Rattle.directory.proofs.More.{laid-suc, laid-length, laid-row}
+use Rattle.directory.proofs.Laid.{laid-suc, laid-length, laid-row}
 use Rattle.counters.specs.Tallies.{Begins}
-use Rattle.counters.proofs.More.{front-length, take-front, front-of-take, front-over, front-paste, paste-next}
+use Rattle.base.proofs.Fronts.{length-front, take-front, front-of-take, front-over, front-paste, paste-next}
 
 -- ---- one row written
 
@@ -91,7 +91,7 @@ begins-none f l = refl
 module _ (f : ℕ → List ℕ) (wide : (r : ℕ) → length (f r) ≡ 256) where
   -- n rows in front of a slice that has room for them leave its length
   pub rows-length : (n : ℕ) (l : List ℕ) → n * 256 ≤ length l → length (front (laid f n) l) ≡ length l
-  rows-length n l h = front-length (laid f n) l (omega (arith, laid-length f 256 wide n))
+  rows-length n l h = length-front (laid f n) l (omega (arith, laid-length f 256 wide n))
 
   -- one row more is written behind n rows
   pub rows-put : (n : ℕ) (l table s : List ℕ) → table ≡ front (laid f n) l → s ≡ f n → paste table (n * 256) s 256 ≡ front (laid f (n + 1)) l

@@ -12,10 +12,9 @@ use Rattle.base.specs.Lists.{Below}
 use Rattle.base.proofs.Tests.{below-or-not}
 use Rattle.base.specs.Texts.{maxSuperblock}
 use Rattle.directory.specs.Counters.{row, superblockRow, blockRow, Sizes, maxBytes}
-use Rattle.directory.proofs.More.{quotient-inside, inside-quotient}
+use Rattle.base.proofs.Parts.{quotient-inside, inside-quotient, slice-more, take-slice}
 use Rattle.directory.proofs.Rows.{row-none, superblock-row-length, first-block, next-block, in-superblock, superblock-some, block-most, rows-most}
 use Rattle.counters.specs.Tallies.{sums, counters, blockBytes, endOf, Begins, Reached}
-use Rattle.counters.proofs.More.{slice-more, take-slice}
 use Rattle.counters.proofs.Sums.{row-below, sums-rows, counters-none}
 
 -- ---- the blocks of a superblock

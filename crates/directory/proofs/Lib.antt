@@ -1,3 +1,3 @@
-pub mod More
+pub mod Laid
 pub mod Rows
 pub mod Searches

@@ -12,13 +12,14 @@ use lib.Seq.{slice, ext-getD, take-nil, drop-nil}
 use Rattle.base.specs.Lists.{countOf, same}
 use Rattle.base.specs.Answers.{NoneHolds}
 use Rattle.base.specs.Texts.{maxSuperblock}
-use Rattle.base.proofs.Tests.{and-left, and-right, and-true, false-of}
+use Rattle.base.proofs.Tests.{and-left, and-right, and-true, false-of, or-neither}
 use Rattle.base.proofs.Lists.{same-yes, same-true}
 use Rattle.base.proofs.Counts.{count-slice}
 use Rattle.base.proofs.Ranges.{length-map-range, getD-map-range}
 use Rattle.directory.specs.Counters.{row, superblockRow, blockRow, superblockRows, blockRows, isDirectory, Directory, maxBytes, Sizes, blocksCase}
 use Rattle.directory.specs.Tables.{laid}
-use Rattle.directory.proofs.More.{or-neither, quotient-inside, laid-suc, laid-length, laid-at}
+use Rattle.base.proofs.Parts.{quotient-inside}
+use Rattle.directory.proofs.Laid.{laid-suc, laid-length, laid-at}
 
 -- ---- one row
 

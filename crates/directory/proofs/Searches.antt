@@ -11,7 +11,7 @@ use Rattle.base.proofs.Tests.{below-or-not}
 use Rattle.base.proofs.Counts.{nth-part}
 use Rattle.directory.specs.Counters.{Sizes, Directory}
 use Rattle.directory.specs.Tables.{LastRow}
-use Rattle.directory.proofs.More.{quotient-inside, inside-quotient, part-cut}
+use Rattle.base.proofs.Parts.{quotient-inside, inside-quotient, part-cut}
 use Rattle.directory.proofs.Rows.{first-block, next-block, in-superblock, superblock-some, superblock-rows, block-rows, superblock-is, both-are}
 
 -- ---- a binary search

@@ -15,7 +15,7 @@ use Rattle.base.proofs.Ranges.{filter-range-none, filter-range-ascends}
 use Rattle.pages.specs.Hits.{allHits}
 use Rattle.pages.specs.Pages.{Page, pending, pageOver}
 use Rattle.pages.specs.Runs.{Outcome, hitsOn, linesOn, ReportsEnd, outcomes, stateAfter, outcomeAfter, found, linesHad, AcceptedBring, Complete, IsPage, IsListing, EveryRunComplete}
-use Rattle.pages.proofs.More.{mem-take}
+use Rattle.base.proofs.Members.{mem-take}
 use Rattle.pages.proofs.Hits.{hits-from-start, is-hit, hit-is, last-among}
 use Rattle.pages.proofs.Pages.{page-found, page-more, page-rest, page-within}
 use Rattle.pages.proofs.Runs.{found-cons, found-append, lines-append, lines-snoc}

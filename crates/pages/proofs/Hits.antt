@@ -12,7 +12,8 @@ use Rattle.base.specs.Lists.{filterBy, rangeFrom}
 use Rattle.base.proofs.Tests.{below-or-not}
 use Rattle.base.proofs.Ranges.{filter-range-ascends}
 use Rattle.pages.specs.Hits.{hitsFrom, allHits, lastOr}
-use Rattle.pages.proofs.More.{getD-mem, mem-getD, filter-range-sound, filter-range-has}
+use Rattle.base.proofs.Members.{getD-mem, mem-getD}
+use Rattle.base.proofs.Filters.{filter-range-sound, filter-range-has}
 
 -- the last of a list with one element more
 pub last-append : (d : ℕ) (xs : List ℕ) (q : ℕ) → lastOr d (xs ++ q ∷ []) ≡ q

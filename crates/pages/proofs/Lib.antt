@@ -1,4 +1,3 @@
-pub mod More
 pub mod Hits
 pub mod Pages
 pub mod Runs

@@ -10,10 +10,9 @@ use lib.ListN.{length, take, getD}
 use lib.Seq.{take-all}
 use Rattle.base.specs.Lists.{filterBy, rangeFrom, countOf, nth}
 use Rattle.base.proofs.Tests.{same-or-not, below-or-not, false-of}
-use Rattle.base.proofs.Counts.{count-hit, count-miss, nth-here, nth-found, Found}
+use Rattle.base.proofs.Counts.{count-hit, count-miss, nth-here, nth-found, Found, count-take-rises, count-take-whole}
 use Rattle.phrases.specs.Phrases.{stands, places}
 use Rattle.phrases.specs.Anchors.{Anchored, candidate, firstCandidate}
-use Rattle.phrases.proofs.More.{count-take-rises, count-take-whole}
 use Rattle.phrases.proofs.Standing.{stands-inside, stands-word}
 
 -- occurrences are ascending

@@ -1,4 +1,3 @@
-pub mod More
 pub mod Standing
 pub mod Anchors
 pub mod Offsets

@@ -11,7 +11,7 @@ use lib.ListN.{length, getD}
 use Rattle.base.specs.Lists.{filterBy, rangeFrom}
 use Rattle.base.proofs.Ranges.{filter-range-append, filter-range-none}
 use Rattle.phrases.specs.Neighbours.{standsAt, neighbourAt, neighbours, Mirror}
-use Rattle.phrases.proofs.More.{filter-range-same, length-filter-shift, filter-range-end}
+use Rattle.base.proofs.Filters.{filter-range-same, length-filter-shift, filter-range-end}
 
 -- two tests in the other order, and a second test that never holds
 and-swap : (a b : Bool) → a && b ≡ b && a

@@ -6,7 +6,7 @@ use native.Mathlib.Omega.{arith}
 use borrow.Author.Needs.{needs}
 use lib.ListN.{take, drop}
 use Rattle.directory.specs.Counters.{row}
-use Rattle.directory.proofs.More.{part-cut}
+use Rattle.base.proofs.Parts.{part-cut}
 use Rattle.counters.specs.Tallies.{sums, counters, blockBytes}
 use Rattle.counters.proofs.tally_block.Statement.{statement}
 use Rattle.counters.proofs.tally_block.Tie as tie

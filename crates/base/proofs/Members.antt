@@ -1,13 +1,11 @@
--- Laws of membership in a list, and of the numbers of a range that pass a test. Assumes nothing.
-use Prim.Native.Nat.{ℕ, zero, suc, _+_, _-_, _≤_, _<_}
+-- Laws of membership in a list, by its elements. Assumes nothing.
+use Prim.Native.Nat.{ℕ, zero, suc, _<_}
 use mathlib.Core.Path.{_≡_, refl, sym, subst}
-use mathlib.Core.Bool.{Bool, true}
 use mathlib.Core.Logic.{⊎-elim}
-use mathlib.Core.List.{List, [], _∷_, List·Memᴰ, List·Memᴰ·head, List·Memᴰ·tail, List·Memᴰ·not-nil, List·Memᴰ·cases-cons, Memᴰ·append-left, Memᴰ·append-right}
+use mathlib.Core.List.{List, [], _∷_, List·Memᴰ, List·Memᴰ·head, List·Memᴰ·tail, List·Memᴰ·not-nil, List·Memᴰ·cases-cons, Memᴰ·append-left}
 use native.Mathlib.Omega.{arith}
 use lib.ListN.{length, take, drop, getD, take-append-drop}
-use Rattle.base.specs.Lists.{All, filterBy, rangeFrom}
-use Rattle.base.proofs.Ranges.{filter-range-meets, all-filter-range}
+use Rattle.base.specs.Lists.{All}
 
 -- what holds of all elements holds of each
 pub all-mem : (P : ℕ → Type 0) (xs : List ℕ) → All P xs → {q : ℕ} → List·Memᴰ q xs → P q
@@ -30,13 +28,3 @@ mem-getD (x ∷ xs) {q} m = ⊎-elim (λ e. (0, omega arith, sym e)) (λ m. furt
 -- an element of a front is one of the list
 pub mem-take : (k : ℕ) (xs : List ℕ) {q : ℕ} → List·Memᴰ q (take k xs) → List·Memᴰ q xs
 mem-take k xs {q} m = subst (λ (ys : List ℕ). List·Memᴰ q ys) (take-append-drop k xs) (Memᴰ·append-left (drop k xs) m)
-
--- the numbers of a range that pass a test are of the range and pass it, and each number of the range that passes is one of them
-pub filter-range-sound : (test : ℕ → Bool) (a n q : ℕ) → List·Memᴰ q (filterBy test (rangeFrom a n)) → (a ≤ q) × (q < a + n) × (test q ≡ true)
-filter-range-sound test a n q m =
-    all-mem (λ (i : ℕ). (a ≤ i) × (i < a + n) × (test i ≡ true)) (filterBy test (rangeFrom a n))
-    (all-filter-range test (λ (i : ℕ). (a ≤ i) × (i < a + n) × (test i ≡ true)) a n (λ i l u e. (l, u, e))) m
-
-pub filter-range-has : (test : ℕ → Bool) (a n q : ℕ) → a ≤ q → q < a + n → test q ≡ true → List·Memᴰ q (filterBy test (rangeFrom a n))
-filter-range-has test a n q l u e =
-    subst (λ (xs : List ℕ). List·Memᴰ q xs) (sym (filter-range-meets test a q n l u e)) (Memᴰ·append-right (filterBy test (rangeFrom a (q - a))) (List·Memᴰ·head refl))

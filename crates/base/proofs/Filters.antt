@@ -1,15 +1,16 @@
--- Laws of the numbers of a range that pass a test, and of counting them. Assumes nothing.
+-- Laws of the numbers of a range that pass a test: which they are, and how often each is there. Assumes nothing.
 use Prim.Native.Nat.{ℕ, zero, suc, _+_, _-_, _≤_, _<_}
-use mathlib.Core.Path.{_≡_, refl, sym, ap, ap₂, _∙_}
+use mathlib.Core.Path.{_≡_, refl, sym, ap, ap₂, _∙_, subst}
 use mathlib.Core.Bool.{Bool, true, false, cond, false≢true}
 use mathlib.Core.Logic.{_⊎_, inl, inr}
-use mathlib.Core.List.{List, _∷_, _++_, append-nil}
+use mathlib.Core.List.{List, _∷_, _++_, append-nil, List·Memᴰ, List·Memᴰ·head, Memᴰ·append-right}
 use native.Mathlib.Omega.{arith}
-use lib.ListN.{length, take, drop, take-append-drop}
+use lib.ListN.{length}
 use Rattle.base.specs.Lists.{filterBy, rangeFrom, countOf}
 use Rattle.base.proofs.Tests.{cond-same}
-use Rattle.base.proofs.Counts.{count-append, count-none, count-slice}
+use Rattle.base.proofs.Counts.{count-append, count-none}
 use Rattle.base.proofs.Ranges.{filter-range-append, filter-range-none, filter-range-meets, all-filter-range}
+use Rattle.base.proofs.Members.{all-mem}
 
 -- two tests that agree on a range are passed by the same numbers of it
 pub filter-range-same : (f g : ℕ → Bool) (a n : ℕ) → ((i : ℕ) → a ≤ i → i < a + n → f i ≡ g i) → filterBy f (rangeFrom a n) ≡ filterBy g (rangeFrom a n)
@@ -64,9 +65,12 @@ count-filter-outside test q a n h = count-none q (filterBy test (rangeFrom a n))
     by (inl h) i l u r = omega arith
     by (inr h) i l u r = omega arith
 
--- a front has at most as many of an element as a longer front, and as the whole list
-pub count-take-rises : (e i k : ℕ) (xs : List ℕ) → i ≤ k → countOf e (take i xs) ≤ countOf e (take k xs)
-count-take-rises e i k xs h = omega (arith, count-slice e i k xs h)
+-- the numbers of a range that pass a test are of the range and pass it, and each number of the range that passes is one of them
+pub filter-range-sound : (test : ℕ → Bool) (a n q : ℕ) → List·Memᴰ q (filterBy test (rangeFrom a n)) → (a ≤ q) × (q < a + n) × (test q ≡ true)
+filter-range-sound test a n q m =
+    all-mem (λ (i : ℕ). (a ≤ i) × (i < a + n) × (test i ≡ true)) (filterBy test (rangeFrom a n))
+    (all-filter-range test (λ (i : ℕ). (a ≤ i) × (i < a + n) × (test i ≡ true)) a n (λ i l u e. (l, u, e))) m
 
-pub count-take-whole : (e i : ℕ) (xs : List ℕ) → countOf e (take i xs) ≤ countOf e xs
-count-take-whole e i xs = omega (arith, ap (countOf e) (take-append-drop i xs), count-append e (take i xs) (drop i xs))
+pub filter-range-has : (test : ℕ → Bool) (a n q : ℕ) → a ≤ q → q < a + n → test q ≡ true → List·Memᴰ q (filterBy test (rangeFrom a n))
+filter-range-has test a n q l u e =
+    subst (λ (xs : List ℕ). List·Memᴰ q xs) (sym (filter-range-meets test a q n l u e)) (Memᴰ·append-right (filterBy test (rangeFrom a (q - a))) (List·Memᴰ·head refl))

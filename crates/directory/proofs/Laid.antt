@@ -1,53 +1,15 @@
--- Laws of two tests, of quotients, of parts that end where the list does, and of lists of one width laid end to end. Assumes nothing.
-use Prim.Native.Nat.{ℕ, zero, suc, _+_, _*_, _/_, _-_, _≤_, _<_, min}
-use mathlib.Core.Path.{_≡_, refl, sym, ap, _∙_}
-use mathlib.Core.Bool.{Bool, true, false, _||_, false≢true}
-use mathlib.Core.Logic.{_⊎_, inl, inr}
+-- Laws of lists of one width laid end to end. Assumes nothing.
+use Prim.Native.Nat.{ℕ, zero, suc, _+_, _*_, _-_, _<_}
+use mathlib.Core.Path.{_≡_, sym, ap, _∙_}
 use mathlib.Core.List.{List, [], _∷_, _++_, map, map-append, flatten, append-nil}
-use native.Mathlib.Nat.{le-div-iff-mul-le, zero-mul, suc-mul}
+use native.Mathlib.Nat.{zero-mul, suc-mul}
 use native.Mathlib.Omega.{arith}
-use lib.ListN.{length, take, drop, getD, length-append, length-drop}
-use lib.Seq.{getD-take, getD-drop, take-at, drop-at, take-all}
+use lib.ListN.{length, take, drop, getD, length-append}
+use lib.Seq.{getD-take, getD-drop, take-at, drop-at}
 use Rattle.base.specs.Lists.{rangeFrom}
-use Rattle.base.proofs.Tests.{below-or-not}
 use Rattle.base.proofs.Ranges.{range-append, map-range-suc}
 use Rattle.base.proofs.Segments.{flatten-append}
 use Rattle.directory.specs.Tables.{laid}
-
--- ---- tests
-
--- where not one of two tests holds, neither does
-pub or-neither : (a b : Bool) → a || b ≡ false → (a ≡ false) × (b ≡ false)
-or-neither true b e = absurd (false≢true (sym e))
-or-neither false b e = (refl, e)
-
--- ---- quotients
-
--- r is among the numbers up to n / m where r × m is at most n
-pub quotient-inside : (n m r : ℕ) → 1 ≤ m → r * m ≤ n → r < suc (n / m)
-quotient-inside n m r p h =
-    let l : r ≤ n / m = le-div-iff-mul-le p .1 h in
-    omega arith
-
--- and r × m is at most n where r is among them
-pub inside-quotient : (n m r : ℕ) → 1 ≤ m → r < suc (n / m) → r * m ≤ n
-inside-quotient n m r p h =
-    let l : r ≤ n / m = omega arith in
-    le-div-iff-mul-le p .0 l
-
--- ---- parts
-
--- the part of a list from s that ends after n elements or where the list ends
-pub part-cut : (xs : List ℕ) (s n stop : ℕ) → s ≤ length xs → stop ≡ min (s + n) (length xs) → take (stop - s) (drop s xs) ≡ take n (drop s xs)
-part-cut xs s n stop h e = go (below-or-not (s + n) (length xs))
-  where
-    go : (s + n < length xs) ⊎ (length xs ≤ s + n) → take (stop - s) (drop s xs) ≡ take n (drop s xs)
-    go (inl l) =
-        let m : stop - s ≡ n = omega arith in
-        rw m
-    go (inr g) = take-all (stop - s) (drop s xs) (rw length-drop (omega arith)) ∙ sym (take-all n (drop s xs) (rw length-drop (omega arith)))
-
--- ---- lists of one width laid end to end
 
 module _ (f : ℕ → List ℕ) where
   -- one list more
