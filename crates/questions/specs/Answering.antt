@@ -1,0 +1,72 @@
+-- The answer to a question about the text of an index.
+use Prim.Native.Nat.{ℕ, _+_}
+use mathlib.Core.Bool.{cond, not, _||_}
+use mathlib.Core.List.{List, [], _∷_}
+use lib.Dec.{eqb, leb, ltb}
+use lib.IntN.{ℤ, natAbs}
+use lib.ListN.{length, take, drop}
+use Rattle.base.specs.declared.Answer.{Answer}
+use Rattle.base.specs.Refusals.{refusalKind, refusalPhrase, refusalAskedRank, refusalOffset, refusalPlace}
+use Rattle.base.specs.Answers.{accepted, refused, Case, _⇒_, firstOf}
+use Rattle.base.specs.Texts.{maxPhrase, maxOffset, outside, ranksBelow}
+use Rattle.index.specs.declared.Shape.{Shape}
+use Rattle.index.specs.Arrays.{Arrays, textIn}
+use Rattle.index.specs.Entries.{indexCases}
+use Rattle.words.specs.Words.{rankAt, occurrencesBelow, frequency, nthPlace}
+use Rattle.phrases.specs.Phrases.{places}
+use Rattle.phrases.specs.Neighbours.{neighbours}
+use Rattle.questions.specs.declared.Question.{Question}
+
+-- refusal 9: a rank asked about is not below V
+unfoldable pub rankAskedCase : ℕ → List ℕ → Case
+rankAskedCase vocab asked = not (ranksBelow vocab asked) ⇒ refused refusalAskedRank
+
+-- the phrase in a part of the lent words
+unfoldable pub phraseIn : List ℕ → ℕ → ℕ → List ℕ
+phraseIn words start len = take len (drop start words)
+
+-- refusals 8 and 9 of a phrase: its length is outside 1 to 16 or its part outside the lent words; one of its words is not below V
+unfoldable pub phraseCases : ℕ → List ℕ → ℕ → ℕ → List Case
+phraseCases vocab words start len =
+    (outside 1 maxPhrase len || ltb (length words) (start + len) ⇒ refused refusalPhrase)
+    ∷ rankAskedCase vocab (phraseIn words start len)
+    ∷ []
+
+-- kind 1: the rank at place p, p < n
+unfoldable pub wordAtAnswer : List ℕ → ℕ → Answer
+wordAtAnswer t p = firstOf ((leb (length t) p ⇒ refused refusalPlace) ∷ []) (accepted (rankAt t p))
+
+-- kind 2: how often w stands at places below p, p ≤ n
+unfoldable pub occurrencesAnswer : ℕ → List ℕ → ℕ → ℕ → Answer
+occurrencesAnswer vocab t w p =
+    firstOf (rankAskedCase vocab (w ∷ []) ∷ (ltb (length t) p ⇒ refused refusalPlace) ∷ []) (accepted (occurrencesBelow t w p))
+
+-- kind 3: the place of the p-th w, from 1 up to the number there are
+unfoldable pub placeAnswer : ℕ → List ℕ → ℕ → ℕ → Answer
+placeAnswer vocab t w p =
+    firstOf (rankAskedCase vocab (w ∷ []) ∷ (outside 1 (frequency t w) p ⇒ refused refusalPlace) ∷ []) (accepted (nthPlace t w p))
+
+-- kind 4: how often w has v at the offset d, d from -16 to 16
+unfoldable pub neighboursAnswer : ℕ → List ℕ → ℕ → ℕ → ℤ → Answer
+neighboursAnswer vocab t w v d =
+    firstOf (rankAskedCase vocab (w ∷ v ∷ []) ∷ (ltb maxOffset (natAbs d) ⇒ refused refusalOffset) ∷ []) (accepted (neighbours t w v d))
+
+-- kind 5: how often the phrase stands
+unfoldable pub phraseAnswer : ℕ → List ℕ → List ℕ → ℕ → ℕ → Answer
+phraseAnswer vocab t words start len =
+    firstOf (phraseCases vocab words start len) (accepted (length (places t (phraseIn words start len))))
+
+-- the answer to a question about the text t of a vocabulary: refusal 7 for a kind outside 1 to 5
+unfoldable pub questionAnswer : ℕ → List ℕ → List ℕ → Question → Answer
+questionAnswer vocab t words q =
+    cond (eqb (q .kind) 1) (wordAtAnswer t (q .p))
+    (cond (eqb (q .kind) 2) (occurrencesAnswer vocab t (q .w) (q .p))
+    (cond (eqb (q .kind) 3) (placeAnswer vocab t (q .w) (q .p))
+    (cond (eqb (q .kind) 4) (neighboursAnswer vocab t (q .w) (q .v) (q .d))
+    (cond (eqb (q .kind) 5) (phraseAnswer vocab t words (q .start) (q .length))
+    (refused refusalKind)))))
+
+-- asking one question of an index
+unfoldable pub askAnswer : ℕ → Shape → Arrays → List ℕ → Question → Answer
+askAnswer s shape a words q =
+    firstOf (indexCases s shape a) (questionAnswer (shape .vocabulary) (textIn s a) words q)

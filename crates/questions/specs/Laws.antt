@@ -1,0 +1,47 @@
+-- Statements: fields that a kind does not use never matter, an index is read back by the calls, and the mirror law.
+use Prim.Native.Nat.{ℕ, _+_, _≤_, _<_}
+use mathlib.Core.Path.{_≡_}
+use mathlib.Core.List.{List, [], _∷_, _++_}
+use lib.IntN.{ℤ, negℤ}
+use lib.ListN.{length, getD, take, drop}
+use Rattle.base.specs.Answers.{accepted}
+use Rattle.dense.specs.Code.{Closing}
+use Rattle.index.specs.declared.Shape.{Shape}
+use Rattle.index.specs.Arrays.{Arrays}
+use Rattle.index.specs.Exact.{WithinLimits, HasIndex}
+use Rattle.questions.specs.declared.Question.{Question}
+use Rattle.questions.specs.Makers.{asksWordAt, asksOccurrencesBelow, asksPlaceOf, asksNeighbours, asksPhrase}
+use Rattle.questions.specs.Answering.{askAnswer}
+use Rattle.questions.specs.Passages.{passageAnswer, passageExit}
+
+-- an answer never depends on the fields that the kind does not use: it is that of the maker's question
+pub record UnusedFields (s : ℕ) (shape : Shape) (a : Arrays) (words : List ℕ) (q : Question) : Type 0 where
+  pub kind1 : q .kind ≡ 1 → askAnswer s shape a words q ≡ askAnswer s shape a words (asksWordAt (q .p))
+  pub kind2 : q .kind ≡ 2 → askAnswer s shape a words q ≡ askAnswer s shape a words (asksOccurrencesBelow (q .w) (q .p))
+  pub kind3 : q .kind ≡ 3 → askAnswer s shape a words q ≡ askAnswer s shape a words (asksPlaceOf (q .w) (q .p))
+  pub kind4 : q .kind ≡ 4 → askAnswer s shape a words q ≡ askAnswer s shape a words (asksNeighbours (q .w) (q .v) (q .d))
+  pub kind5 : q .kind ≡ 5 → askAnswer s shape a words q ≡ askAnswer s shape a words (asksPhrase (q .start) (q .length))
+
+-- Statement: of every question.
+abbrev pub FieldsUnused : Type 0
+FieldsUnused = (s : ℕ) (shape : Shape) (a : Arrays) (words : List ℕ) (q : Question) → UnusedFields s shape a words q
+
+-- by the calls, too, reading an index gives its text back: word by word, for any lent words, and as one passage
+pub record ReadByCalls (s : ℕ) (shape : Shape) (t : List ℕ) (a : Arrays) : Type 0 where
+  pub word : (words : List ℕ) (p : ℕ) → p < length t → askAnswer s shape a words (asksWordAt p) ≡ accepted (getD t p 0)
+  pub passage :
+      (p : ℕ) (z : List ℕ) → p + length z ≤ length t →
+      (passageAnswer s shape a p z ≡ accepted (length z)) × (passageExit s shape a p z ≡ take (length z) (drop p t))
+  pub whole : (z : List ℕ) → length z ≡ length t → passageExit s shape a 0 z ≡ t
+
+-- Statement: at every number of closing values, V, B and b within their limits, and every text.
+abbrev pub IndexReadByCalls : Type 0
+IndexReadByCalls =
+    (s : ℕ) (shape : Shape) (t : List ℕ) (a : Arrays) → Closing s → WithinLimits s shape → HasIndex s shape t a →
+    ReadByCalls s shape t a
+
+-- Statement: the mirror law, of the calls: the same answer, refusals too
+abbrev pub MirrorAsked : Type 0
+MirrorAsked =
+    (s : ℕ) (shape : Shape) (a : Arrays) (words : List ℕ) (w v : ℕ) (d : ℤ) →
+    askAnswer s shape a words (asksNeighbours w v d) ≡ askAnswer s shape a words (asksNeighbours v w (negℤ d))

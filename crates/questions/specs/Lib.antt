@@ -1,0 +1,4 @@
+pub mod Makers
+pub mod Answering
+pub mod Passages
+pub mod Laws
