@@ -1,22 +1,20 @@
 -- An index is read back by the calls. Assumes nothing.
-use Prim.Native.Nat.{ℕ, _+_, _≤_, _<_}
-use mathlib.Core.Path.{_≡_, refl, sym, ap, _∙_}
+use Prim.Native.Nat.{ℕ, _+_, _≤_}
+use mathlib.Core.Path.{_≡_, refl, ap, _∙_}
 use mathlib.Core.List.{List, [], _∷_, _++_, append-nil}
 use native.Mathlib.Omega.{arith}
 use borrow.Author.Tests.{lt-leb, le-ltb}
 use lib.Dec.{ltb, leb}
 use lib.ListN.{length, take, drop, getD, length-take, length-drop}
 use lib.Seq.{take-all, drop-length}
-use Rattle.base.specs.declared.Answer.{Answer}
 use Rattle.base.specs.Refusals.{refusalPlace}
-use Rattle.base.specs.Answers.{accepted, refused, isAccepted, Case, _⇒_, firstOf, NoneHolds}
+use Rattle.base.specs.Answers.{accepted, refused, isAccepted, Case, _⇒_, NoneHolds}
 use Rattle.base.proofs.Answers.{answers, none-holds, filled-front}
-use Rattle.dense.specs.Code.{Closing, vocabularyCase}
+use Rattle.dense.specs.Code.{vocabularyCase}
 use Rattle.directory.specs.Counters.{blocksCase}
 use Rattle.index.specs.declared.Shape.{Shape}
 use Rattle.index.specs.Arrays.{Arrays, textIn}
 use Rattle.index.specs.Entries.{indexCases, checkAnswer}
-use Rattle.index.specs.Exact.{WithinLimits, HasIndex}
 use Rattle.index.proofs.Exact.{index-exact}
 use Rattle.words.specs.Words.{rankAt}
 use Rattle.questions.specs.declared.Question.{Question}
@@ -64,9 +62,9 @@ index-read-by-calls s shape t a within limits h =
     record {
       word = λ words p l. ask-passed s shape a words (asksWordAt p) e ∙ rw (back) (answers ((leb (length t) p ⇒ refused refusalPlace) ∷ []) (accepted (getD t p 0)) (lt-leb (length t) p l, tt));
       passage = λ p z l.
-        let i : p + length z ≤ length (textIn s a) = rw back l in
-        (passage-accepted s shape a e p z i, passage-filled s shape a e p z i ∙ ap (λ (u : List ℕ). take (length z) (drop p u)) back);
+          let i : p + length z ≤ length (textIn s a) = rw back l in
+          (passage-accepted s shape a e p z i, passage-filled s shape a e p z i ∙ ap (λ (u : List ℕ). take (length z) (drop p u)) back);
       whole = λ z l.
-        let i : 0 + length z ≤ length (textIn s a) = rw back (omega arith) in
-        passage-filled s shape a e 0 z i ∙ ap (take (length z)) back ∙ take-all (length z) t (omega arith);
+          let i : 0 + length z ≤ length (textIn s a) = rw back (omega arith) in
+          passage-filled s shape a e 0 z i ∙ ap (take (length z)) back ∙ take-all (length z) t (omega arith);
     }

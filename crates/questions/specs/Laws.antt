@@ -1,7 +1,7 @@
 -- Statements: fields that a kind does not use never matter, an index is read back by the calls, and the mirror law.
 use Prim.Native.Nat.{ℕ, _+_, _≤_, _<_}
 use mathlib.Core.Path.{_≡_}
-use mathlib.Core.List.{List, [], _∷_, _++_}
+use mathlib.Core.List.{List}
 use lib.IntN.{ℤ, negℤ}
 use lib.ListN.{length, getD, take, drop}
 use Rattle.base.specs.Answers.{accepted}

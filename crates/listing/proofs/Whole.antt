@@ -1,0 +1,102 @@
+-- Demand 3: every list of page calls is complete. Assumes nothing.
+use Prim.Native.Nat.{ℕ, _+_, _≤_, _<_}
+use mathlib.Core.Path.{_≡_, refl, ap, ap₂, subst₂, _∙_}
+use mathlib.Core.Bool.{Bool, true}
+use mathlib.Core.List.{List, _∷_, _++_}
+use native.Mathlib.Omega.{arith}
+use lib.ListN.{length, take, drop, getD, length-take, length-drop}
+use lib.Seq.{ext-getD, getD-take, getD-drop}
+use Rattle.base.specs.Lists.{Below}
+use Rattle.base.specs.Answers.{accepted}
+use Rattle.base.specs.Texts.{maxPhrase}
+use Rattle.base.proofs.Answers.{answers}
+use Rattle.base.proofs.Members.{getD-mem}
+use Rattle.dense.specs.Code.{Closing}
+use Rattle.index.specs.declared.Shape.{Shape}
+use Rattle.index.specs.Arrays.{Arrays, textIn}
+use Rattle.index.specs.Entries.{checkAnswer}
+use Rattle.index.proofs.Exact.{index-exact, check-limits}
+use Rattle.phrases.specs.Phrases.{stands, places}
+use Rattle.phrases.proofs.Exact.{places-are-exact}
+use Rattle.pages.specs.Runs
+use Rattle.pages.specs.Runs.{IsPage, IsListing}
+use Rattle.pages.proofs.Complete.{every-run-complete}
+use Rattle.questions.specs.declared.Question.{Question}
+use Rattle.questions.specs.Answering.{askAnswer, questionAnswer, phraseAnswer, phraseIn, phraseCases}
+use Rattle.questions.specs.Passages.{passageAnswer, passageExit}
+use Rattle.questions.proofs.Read.{ask-passed, passage-accepted, passage-filled}
+use Rattle.listing.specs.declared.Listing.{Listing}
+use Rattle.listing.specs.Paging.{opened, Call, pageOf}
+use Rattle.listing.specs.Completeness.{outcomeOf, foundBy, IsPart, Brings, isPage, resultAfter, Complete, ListingComplete}
+use Rattle.listing.proofs.Calls.{own-page, phrase-tests, call-accepted}
+
+module _ (s : ℕ) (shape : Shape) (a : Arrays) (phrase : List ℕ) (within : Closing s) (passed : checkAnswer s shape a ≡ accepted 0)
+    (some : 1 ≤ length phrase) (most : length phrase ≤ maxPhrase) (below : Below (shape .vocabulary) phrase) where
+  abbrev text : List ℕ
+  text = textIn s a
+
+  -- a listing of the phrase is one over the places where it stands
+  is-listing : IsListing outcomeOf (λ (st : Listing). st .next) (λ (st : Listing). st .finished) (λ (c : Call). c .lines) (Brings s shape a phrase) (λ (st : Listing). Unit {0}) (stands text phrase) (length text)
+  unfolding pageOf
+  is-listing = record {
+    refused = λ call state h. rw h;
+    page = λ call state k b h.
+        subst₂ (λ (f : ℕ → Bool) (n : ℕ). IsPage (λ (st : Listing). st .next) (λ (st : Listing). st .finished) f n (call .lines) state (outcomeOf call state))
+        (ap₂ stands (ap₂ textIn (b .sameClosing) (b .sameArrays)) (b .samePhrase .isPhrase)) (ap length (ap₂ textIn (b .sameClosing) (b .sameArrays)))
+        (own-page call state h);
+    keeps = λ call state k b h. tt;
+    accepts = λ call state k b l h. call-accepted s shape a phrase passed some most below call state b l h;
+  }
+
+  -- the count is accepted, and is the number of all places
+  count-of-all : (words : List ℕ) (q : Question) → q .kind ≡ 5 → IsPart words (q .start) (q .length) phrase → askAnswer s shape a words q ≡ accepted (length (places text phrase))
+  unfolding questionAnswer phraseAnswer
+  count-of-all words q k part =
+      ask-passed s shape a words q passed
+      ∙ rw k (answers (phraseCases (shape .vocabulary) words (q .start) (q .length)) (accepted (length (places text (phraseIn words (q .start) (q .length)))))
+      (phrase-tests (shape .vocabulary) words (q .start) (q .length) phrase part some most below)
+      ∙ ap (λ (p : List ℕ). accepted (length (places text p))) (part .isPhrase))
+
+  -- where the phrase stands, the passage of its length is accepted, and is the phrase
+  passage-is-phrase : (q : ℕ) → stands text phrase q ≡ true → (z : List ℕ) → length z ≡ length phrase
+      → (passageAnswer s shape a q z ≡ accepted (length phrase)) × (passageExit s shape a q z ≡ phrase)
+  passage-is-phrase q e z n =
+      let at = places-are-exact text phrase .standing q .0 e in
+      let i : q + length z ≤ length text = omega (arith, at .0) in (
+        passage-accepted s shape a passed q z i ∙ ap accepted n,
+        passage-filled s shape a passed q z i ∙ ap (λ (m : ℕ). take m (drop q text)) n
+            ∙ ext-getD 0 (take (length phrase) (drop q text)) phrase
+            (length-take (length phrase) (drop q text) ∙ omega (arith, length-drop q text, at .0))
+            (λ j l.
+            let h : j < length phrase = omega (arith, length-take (length phrase) (drop q text)) in
+            getD-take (length phrase) (drop q text) j 0 h ∙ getD-drop q text j 0 ∙ at .1 j h),
+      )
+
+  module _ (calls : List Call) (bring : (before : List Call) (call : Call) (after : List Call) → before ++ call ∷ after ≡ calls → isPage (resultAfter before call) ≡ true → Brings s shape a phrase call) where
+    run : Runs.Complete outcomeOf (λ (st : Listing). st .next) (λ (c : Call). c .lines) (Brings s shape a phrase) (stands text phrase) (length text) opened calls
+    run =
+        every-run-complete Call Listing outcomeOf (λ (st : Listing). st .next) (λ (st : Listing). st .finished) (λ (c : Call). c .lines) (Brings s shape a phrase) (λ (st : Listing). Unit {0})
+        (stands text phrase) (length text) is-listing opened refl refl tt calls bring
+
+    -- the phrase stands at each place found
+    found-stands : (i : ℕ) → i < length (foundBy calls) → stands text phrase (getD (foundBy calls) i 0) ≡ true
+    found-stands i l = run .sound (getD (foundBy calls) i 0) (getD-mem (foundBy calls) i l) .1
+
+    pub whole : Complete s shape a phrase text calls
+    unfolding places
+    whole = record {
+      theText = index-exact s shape within .rebuilt a passed;
+      noOther = λ u h. index-exact s shape within .onlyOne shape refl u text a (check-limits s within shape a passed .0) h (index-exact s shape within .rebuilt a passed);
+      thePlaces = places-are-exact text phrase .standing;
+      firstPlaces = run .firstHits;
+      ascending = run .ascending;
+      nothingElse = found-stands;
+      endReported = run .endReported;
+      allFound = λ before call after e h m. run .allFound before call after e record { accepted = h; noMore = m };
+      pageAccepted = run .pageAccepted;
+      countOfAll = count-of-all;
+      passageIsPhrase = λ i l z n. passage-is-phrase (getD (foundBy calls) i 0) (found-stands i l) z n;
+    }
+
+pub listing-complete : ListingComplete
+listing-complete s shape a phrase within passed some most below calls bring = whole s shape a phrase within passed some most below calls bring

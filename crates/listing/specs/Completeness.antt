@@ -1,0 +1,114 @@
+-- Statement of demand 3: one theorem about a whole list of page calls.
+use Prim.Native.Nat.{ℕ, _+_, _≤_, _<_}
+use mathlib.Core.Path.{_≡_}
+use mathlib.Core.Logic.{_↔_}
+use mathlib.Core.Bool.{Bool, true, false}
+use mathlib.Core.List.{List, [], _∷_, _++_}
+use lib.ListN.{length, take, getD}
+use Rattle.base.specs.Lists.{Below}
+use Rattle.base.specs.Answers.{accepted, isAccepted}
+use Rattle.base.specs.Texts.{maxPhrase}
+use Rattle.dense.specs.Code.{Closing}
+use Rattle.index.specs.declared.Shape.{Shape}
+use Rattle.index.specs.Arrays.{Arrays, textIn}
+use Rattle.index.specs.Entries.{checkAnswer}
+use Rattle.index.specs.Exact.{HasIndex}
+use Rattle.phrases.specs.Phrases.{stands, places}
+use Rattle.pages.specs.Runs.{Outcome, stateAfter, found, linesHad}
+use Rattle.questions.specs.declared.Question.{Question}
+use Rattle.questions.specs.Answering.{askAnswer, phraseIn}
+use Rattle.questions.specs.Passages.{passageAnswer, passageExit}
+use Rattle.listing.specs.declared.Listing.{Listing}
+use Rattle.listing.specs.Paging.{opened, Call, PageResult, pageOf}
+
+-- what a page call comes to, as the runs of `pages` take it: it is one of the listing's pages if it is accepted
+abbrev pub outcomeOf : Call → Listing → Outcome Listing
+outcomeOf call state =
+    record {
+      accepted = isAccepted (pageOf call state .page .answer);
+      value = pageOf call state .page .answer .value;
+      more = pageOf call state .page .more;
+      state = pageOf call state .page .listing;
+      slice = pageOf call state .lines;
+    }
+
+-- found: the hits of the accepted pages of calls from an opened listing, laid end to end in the order of the calls, as they stood on
+-- return: as many elements from the front of its slice as the value of each says
+abbrev pub foundBy : List Call → List ℕ
+foundBy calls = found outcomeOf opened calls
+
+-- how many lines those pages had
+abbrev pub linesOf : List Call → ℕ
+linesOf calls = linesHad outcomeOf opened calls
+
+-- what a call returns and writes that comes after these calls from an opened listing: the first is handed the opening state, each later
+-- one the state that the call before it returned, accepted or not
+abbrev pub resultAfter : List Call → Call → PageResult
+resultAfter before call = pageOf call (stateAfter outcomeOf opened before)
+
+-- whether it is accepted, and so one of the listing's pages
+abbrev pub isPage : PageResult → Bool
+isPage result = isAccepted (result .page .answer)
+
+-- a part of the lent words is inside them and is the phrase
+pub record IsPart (words : List ℕ) (start len : ℕ) (phrase : List ℕ) : Type 0 where
+  pub inside : start + len ≤ length words
+  pub isPhrase : phraseIn words start len ≡ phrase
+
+-- a call brings the phrase and, unchanged, the number of closing values, V, B, b and the four slices
+pub record Brings (s : ℕ) (shape : Shape) (a : Arrays) (phrase : List ℕ) (call : Call) : Type 0 where
+  pub sameClosing : call .closing ≡ s
+  pub sameShape : call .shape ≡ shape
+  pub sameArrays : call .arrays ≡ a
+  pub samePhrase : IsPart (call .words) (call .start) (call .len) phrase
+
+-- what holds of the text t, the phrase, and a list of calls from an opened listing
+pub record Complete (s : ℕ) (shape : Shape) (a : Arrays) (phrase t : List ℕ) (calls : List Call) : Type 0 where
+  -- the text has the slices as its index, and no other text has
+  pub theText : HasIndex s shape t a
+  pub noOther : (u : List ℕ) → HasIndex s shape u a → u ≡ t
+  -- the places are those q with q + m ≤ n where all m words of the phrase agree
+  pub thePlaces :
+      (q : ℕ) →
+      (stands t phrase q ≡ true) ↔ ((q + length phrase ≤ length t) × ((i : ℕ) → i < length phrase → getD t (q + i) 0 ≡ getD phrase i 0))
+  -- found are the first of them, as many as the accepted pages had lines, or every place if there are fewer
+  pub firstPlaces : foundBy calls ≡ take (linesOf calls) (places t phrase)
+  -- found is ascending, so that nothing is found twice
+  pub ascending : (i j : ℕ) → i < j → j < length (foundBy calls) → getD (foundBy calls) i 0 < getD (foundBy calls) j 0
+  -- nothing else is found: the phrase stands at each place found
+  pub nothingElse : (i : ℕ) → i < length (foundBy calls) → stands t phrase (getD (foundBy calls) i 0) ≡ true
+  -- an accepted page reports the end exactly when, with it, every place has been found
+  pub endReported :
+      (before : List Call) (call : Call) (after : List Call) → before ++ call ∷ after ≡ calls →
+      isPage (resultAfter before call) ≡ true →
+      (resultAfter before call .page .more ≡ false) ↔ (foundBy (before ++ call ∷ []) ≡ places t phrase)
+  -- once a page has reported the end, every place is found by the list of calls
+  pub allFound :
+      (before : List Call) (call : Call) (after : List Call) → before ++ call ∷ after ≡ calls →
+      isPage (resultAfter before call) ≡ true → resultAfter before call .page .more ≡ false → foundBy calls ≡ places t phrase
+  -- a call of the list that brings the same and a page of one line or more is accepted
+  pub pageAccepted :
+      (before : List Call) (call : Call) (after : List Call) → before ++ call ∷ after ≡ calls →
+      Brings s shape a phrase call → 1 ≤ length (call .lines) → isPage (resultAfter before call) ≡ true
+  -- the count of the phrase, kind 5, is accepted, and is the number of all places where it stands
+  pub countOfAll :
+      (words : List ℕ) (q : Question) → q .kind ≡ 5 → IsPart words (q .start) (q .length) phrase →
+      askAnswer s shape a words q ≡ accepted (length (places t phrase))
+  -- the passage of the phrase's length at each place found is accepted, and is the phrase
+  pub passageIsPhrase :
+      (i : ℕ) → i < length (foundBy calls) → (z : List ℕ) → length z ≡ length phrase →
+      (passageAnswer s shape a (getD (foundBy calls) i 0) z ≡ accepted (length phrase))
+      × (passageExit s shape a (getD (foundBy calls) i 0) z ≡ phrase)
+
+-- Statement of demand 3, at every number of closing values: for arrays that pass the check, one phrase of 1 to 16 words of the
+-- vocabulary, and every list of page calls, the empty one too, of which the accepted ones bring that phrase and those arrays, the
+-- refused ones anything.
+abbrev pub ListingComplete : Type 0
+ListingComplete =
+    (s : ℕ) (shape : Shape) (a : Arrays) (phrase : List ℕ) → Closing s →
+    checkAnswer s shape a ≡ accepted 0 →
+    1 ≤ length phrase → length phrase ≤ maxPhrase → Below (shape .vocabulary) phrase →
+    (calls : List Call) →
+    ((before : List Call) (call : Call) (after : List Call) → before ++ call ∷ after ≡ calls →
+    isPage (resultAfter before call) ≡ true → Brings s shape a phrase call) →
+    Complete s shape a phrase (textIn s a) calls

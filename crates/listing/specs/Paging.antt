@@ -1,0 +1,84 @@
+-- A page of a listing: all that a call returns and writes.
+use Prim.Native.Nat.{ℕ}
+use mathlib.Core.Bool.{false, cond, _&&_}
+use mathlib.Core.List.{List, [], _∷_, _++_}
+use lib.Dec.{eqb, ltb}
+use lib.ListN.{length}
+use Rattle.base.specs.declared.Answer.{Answer}
+use Rattle.base.specs.Refusals.{refusalPlace, refusalPage}
+use Rattle.base.specs.Answers.{accepted, refused, isAccepted, Case, _⇒_, firstOf, filled}
+use Rattle.index.specs.declared.Shape.{Shape}
+use Rattle.index.specs.Arrays.{Arrays, textIn}
+use Rattle.index.specs.Entries.{indexCases}
+use Rattle.phrases.specs.Phrases.{stands}
+use Rattle.pages.specs.Pages
+use Rattle.pages.specs.Pages.{pageOver}
+use Rattle.questions.specs.Answering.{phraseIn, phraseCases}
+use Rattle.listing.specs.declared.Listing.{Listing}
+use Rattle.listing.specs.declared.Page.{Page}
+
+-- a listing opens with next 0, not finished
+abbrev pub opened : Listing
+opened = record { next = 0; finished = false }
+
+-- what a page call brings beside the state: its number of closing values, V, B and b, the four slices, the lent words with the phrase's
+-- part, and what the page's slice holds; its elements are the lines of the page
+pub record Call : Type 0 where
+  pub closing : ℕ
+  pub shape : Shape
+  pub arrays : Arrays
+  pub words : List ℕ
+  pub start : ℕ
+  pub len : ℕ
+  pub lines : List ℕ
+
+-- a page call, in the order in which it is given its parts
+abbrev pub callOf : ℕ → Shape → Arrays → List ℕ → ℕ → ℕ → List ℕ → Call
+callOf s shape a words start len lines =
+    record { closing = s; shape = shape; arrays = a; words = words; start = start; len = len; lines = lines }
+
+-- the text of the slices that a call brings
+abbrev pub callText : Call → List ℕ
+callText call = textIn (call .closing) (call .arrays)
+
+-- the phrase that a call brings
+abbrev pub callPhrase : Call → List ℕ
+callPhrase call = phraseIn (call .words) (call .start) (call .len)
+
+-- the page over the state that a call is handed: of the places 0 to n of its text, the hits are those where its phrase stands
+unfoldable pub callPage : Call → Listing → Pages.Page
+callPage call state =
+    pageOver (stands (callText call) (callPhrase call)) (length (callText call)) (length (call .lines)) (state .next) (state .finished)
+
+-- the refusals of a page call, in the order tried: of the index, of the phrase, a next place above n, a page of length 0
+unfoldable pub pageCases : Call → Listing → List Case
+pageCases call state =
+    indexCases (call .closing) (call .shape) (call .arrays)
+    ++ phraseCases (call .shape .vocabulary) (call .words) (call .start) (call .len)
+    ++ (ltb (length (callText call)) (state .next) ⇒ refused refusalPlace)
+    ∷ (eqb (length (call .lines)) 0 ⇒ refused refusalPage)
+    ∷ []
+
+-- the answer of a page call: the number of hits written
+unfoldable pub pageAnswer : Call → Listing → Answer
+pageAnswer call state = firstOf (pageCases call state) (accepted (length (callPage call state .found)))
+
+-- what a page call returns, and what its slice holds then
+pub record PageResult : Type 0 where
+  pub page : Page
+  pub lines : List ℕ
+
+-- all that a page call returns and writes: the hits in front of the slice and the rest as it was; "more", paper 01's term, exactly if the
+-- slice is full and another hit follows; the state of the page. A refused call hands back the state that it was given and leaves its slice
+unfoldable pub pageOf : Call → Listing → PageResult
+pageOf call state =
+    record {
+      page =
+          record {
+            answer = pageAnswer call state;
+            more = isAccepted (pageAnswer call state) && callPage call state .more;
+            listing =
+                cond (isAccepted (pageAnswer call state)) (record { next = callPage call state .next; finished = callPage call state .finished }) state;
+          };
+      lines = filled (pageAnswer call state) (callPage call state .found) (call .lines);
+    }
