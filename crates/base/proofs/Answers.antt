@@ -1,7 +1,7 @@
 -- The first test that holds wins; a call fills the front of a slice or leaves it. Assumes nothing.
 use Prim.Native.Nat.{ℕ, _≤_}
-use mathlib.Core.Path.{_≡_, refl, sym, _∙_}
-use mathlib.Core.Bool.{Bool, true, false, false≢true}
+use mathlib.Core.Path.{_≡_, refl, sym, ap, _∙_}
+use mathlib.Core.Bool.{Bool, true, false, cond, false≢true}
 use mathlib.Core.List.{List, [], _∷_, _++_}
 use native.Mathlib.Omega.{arith}
 use lib.ListN.{length, drop, length-append, length-drop}
@@ -37,6 +37,24 @@ none-holds ((false ⇒ x) ∷ cases) answer r h = (refl, none-holds cases answer
 pub answers : (cases : List Case) (answer : Answer) → NoneHolds cases → firstOf cases answer ≡ answer
 answers [] answer n = first-none answer
 answers ((test ⇒ x) ∷ cases) answer n = first-later test x cases answer (n .0) ∙ answers cases answer (n .1)
+
+-- the tests of two lists, one after the other
+pub first-append : (xs ys : List Case) (answer : Answer) → firstOf (xs ++ ys) answer ≡ firstOf xs (firstOf ys answer)
+unfolding firstOf
+first-append [] ys answer = refl
+first-append ((test ⇒ r) ∷ xs) ys answer = ap (cond test r) (first-append xs ys answer)
+
+-- where tests refuse, they decide whatever the answer would be
+pub first-decided : (cases : List Case) (answer other : Answer) → isAccepted answer ≡ true → isAccepted (firstOf cases answer) ≡ false → firstOf cases other ≡ firstOf cases answer
+unfolding firstOf
+first-decided [] answer other a h = absurd (false≢true (sym h ∙ a))
+first-decided ((true ⇒ r) ∷ cases) answer other a h = refl
+first-decided ((false ⇒ r) ∷ cases) answer other a h = first-decided cases answer other a h
+
+-- none of two lists of tests holds if none of each does
+pub none-append : (xs ys : List Case) → NoneHolds xs → NoneHolds ys → NoneHolds (xs ++ ys)
+none-append [] ys a b = b
+none-append ((test ⇒ r) ∷ xs) ys a b = (a .0, none-append xs ys (a .1) b)
 
 pub first-wins : FirstWins
 first-wins = record { decides = decides; answers = answers }

@@ -1,12 +1,14 @@
 -- Laws of a slice that is written from a position on, and from its front on. Assumes nothing.
 use Prim.Native.Nat.{ℕ, suc, _+_, _-_, _≤_, _<_}
 use mathlib.Core.Path.{_≡_, refl, sym, ap, _∙_}
-use mathlib.Core.List.{List, _++_, append-assoc, [], _∷_}
+use mathlib.Core.List.{List, _++_, append-assoc, [], _∷_, append-nil}
 use native.Mathlib.Omega.{arith}
 use native.Mathlib.Numerals.{add-one}
 use lib.ListN.{length, getD, take, drop, length-append, length-drop, take-append-drop, set}
-use lib.Seq.{slice, paste, length-paste-head, take-all, take-append-seam, drop-append-add, drop-drop, drop-cons, getD-at, sets, sets-eq, take-at, drop-at, take-suc, length-take-le}
+use lib.Seq.{slice, paste, length-paste-head, take-all, take-append-seam, drop-append-add, drop-drop, drop-cons, getD-at, sets, sets-eq, take-at, drop-at, drop-length, take-suc, length-take-le, getD-set-same, getD-set-other}
 use Rattle.base.specs.Answers.{front, written}
+use mathlib.Core.Logic.{_⊎_, inl, inr}
+use Rattle.base.proofs.Tests.{same-or-not}
 
 -- a run of stores
 pub written-sets : (xs z : List ℕ) (at : ℕ) → at + length xs ≤ length z → sets z at xs ≡ written xs at z
@@ -87,3 +89,16 @@ pub paste-next : (d : List ℕ) (at : ℕ) (s : List ℕ) (n : ℕ) → at + n <
 paste-next d at s n h l =
     ap (λ (r : List ℕ). getD ((take at d ++ take n s) ++ r) (at + n) 0) (drop-cons d (at + n) 0 h)
     ∙ getD-at (take at d ++ take n s) (getD d (at + n) 0) (drop (suc (at + n)) d) 0 (at + n) (length-paste-head d at s n (omega arith) l)
+
+-- as many elements as the list has are the whole of it
+pub front-whole : (xs z : List ℕ) → length xs ≡ length z → front xs z ≡ xs
+front-whole xs z e =
+    front-is xs z ∙ ap (λ (r : List ℕ). xs ++ r) (ap (λ (m : ℕ). drop m z) e ∙ drop-length z) ∙ append-nil xs
+
+-- a list that holds f below k, with f k written at k, holds f below k + 1
+pub set-below : (f : ℕ → ℕ) (xs : List ℕ) (k x : ℕ) → k < length xs → x ≡ f k → ((j : ℕ) → j < k → getD xs j 0 ≡ f j) → (j : ℕ) → j < k + 1 → getD (set xs k x) j 0 ≡ f j
+set-below f xs k x h e p j l = go (same-or-not j k)
+  where
+    go : (j ≡ k) ⊎ (j ≡ k → ⊥) → getD (set xs k x) j 0 ≡ f j
+    go (inl q) = rw q (getD-set-same xs k x 0 h ∙ e)
+    go (inr n) = getD-set-other xs k j x 0 n ∙ p j (omega arith)

@@ -4,3 +4,5 @@ pub mod Passing
 pub mod Tested
 pub mod Verdicts
 pub mod Exact
+pub mod Filling
+pub mod Builds

@@ -2,3 +2,4 @@ pub mod Arrays
 pub mod Entries
 pub mod Exact
 pub mod Tests
+pub mod Filling

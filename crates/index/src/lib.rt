@@ -3,12 +3,13 @@
 //
 // The entries are `build` and `check`, with 128 closing values. The other functions require what
 // their callers have tested and are no entries.
+mod building;
 mod checking;
 
 ghost use mathlib.Core.Path.{_≡_};
 ghost use Rattle.dense.specs.Code.{Closing};
 ghost use Rattle.index.specs.Arrays.{arrays};
-ghost use Rattle.index.specs.Entries.{checkAnswer};
+ghost use Rattle.index.specs.Entries.{buildAnswer, buildExit, checkAnswer};
 use base::Answer;
 use base::refusal;
 
@@ -18,6 +19,69 @@ pub struct Shape {
     pub vocabulary: usize,
     pub block: usize,
     pub per_superblock: usize,
+}
+
+// Builds the index of a text with s closing values: the answer and the slices are those of paper 01.
+pub fn build_of(
+    s: usize,
+    shape: Shape,
+    text: &[u32],
+    lengths: &mut [u32],
+    bytes: &mut [u8],
+    superblocks: &mut [u32],
+    blocks: &mut [u16],
+) -> Answer
+    requires { ⌜ Closing s ⌝ }
+    ensures answered { λ r. ⌜ r ≡ buildAnswer s shape (now (text .entry)) (arrays (now (lengths .entry)) (now (bytes .entry)) (now (superblocks .entry)) (now (blocks .entry))) ⌝ }
+    ensures filled { λ _. ⌜ arrays (now (lengths .exit)) (now (bytes .exit)) (now (superblocks .exit)) (now (blocks .exit))
+        ≡ buildExit s shape (now (text .entry)) (arrays (now (lengths .entry)) (now (bytes .entry)) (now (superblocks .entry)) (now (blocks .entry))) ⌝ }
+{
+    let outside = checking::limits(s, shape);
+    if outside == refusal::VOCABULARY {
+        return Answer::refused(refusal::VOCABULARY);
+    }
+    if base::MAX_WORDS < text.len() {
+        return Answer::refused(refusal::WORDS);
+    }
+    if outside != 0 {
+        return Answer::refused(refusal::BLOCKS);
+    }
+    let place = base::first_outside(text, shape.vocabulary);
+    if place < text.len() {
+        return Answer::refused_at(refusal::TEXT_RANK, place);
+    }
+    let needed = dense::stream_length(s, text);
+    if building::is_shorter(s, shape, needed, lengths, bytes, superblocks, blocks) {
+        return Answer::refused(refusal::SHORT_SLICE);
+    }
+    building::write_index(s, shape, text, needed, lengths, bytes, superblocks, blocks);
+    Answer::accepted(needed)
+}
+
+// Builds the index of a text of the published code in front of the four slices, and answers the
+// number of node bytes. Refusals 1, 2, 3, 4 with the first place whose rank is not below the
+// vocabulary's size, and 5 leave the slices as they were.
+pub fn build(
+    shape: Shape,
+    text: &[u32],
+    lengths: &mut [u32],
+    bytes: &mut [u8],
+    superblocks: &mut [u32],
+    blocks: &mut [u16],
+) -> Answer
+    ensures answered { λ r. ⌜ r ≡ buildAnswer 128 shape (now (text .entry)) (arrays (now (lengths .entry)) (now (bytes .entry)) (now (superblocks .entry)) (now (blocks .entry))) ⌝ }
+    ensures filled { λ _. ⌜ arrays (now (lengths .exit)) (now (bytes .exit)) (now (superblocks .exit)) (now (blocks .exit))
+        ≡ buildExit 128 shape (now (text .entry)) (arrays (now (lengths .entry)) (now (bytes .entry)) (now (superblocks .entry)) (now (blocks .entry))) ⌝ }
+{
+    build_of(
+        dense::CLOSING,
+        shape,
+        text,
+        lengths,
+        bytes,
+        superblocks,
+        blocks,
+    )
 }
 
 // Checks an index with s closing values: the answer is that of paper 01.

@@ -13,7 +13,7 @@ use Rattle.base.specs.Lists.{Below}
 use Rattle.base.specs.Answers.{accepted, refused, isAccepted, _⇒_, NoneHolds, filled}
 use Rattle.base.specs.Texts.{maxPhrase, outside, ranksBelow}
 use Rattle.base.proofs.Tests.{or-false, inside-range}
-use Rattle.base.proofs.Answers.{none-holds, answers}
+use Rattle.base.proofs.Answers.{none-holds, answers, none-append}
 use Rattle.base.proofs.Texts.{test-of-below}
 use Rattle.dense.specs.Code.{vocabularyCase}
 use Rattle.directory.specs.Counters.{blocksCase}
@@ -23,7 +23,7 @@ use Rattle.index.specs.Entries.{indexCases, checkAnswer}
 use Rattle.phrases.specs.Phrases.{stands}
 use Rattle.pages.specs.Runs.{IsPage}
 use Rattle.questions.specs.Answering.{phraseIn, phraseCases, rankAskedCase}
-use Rattle.questions.proofs.Read.{index-tests, none-append}
+use Rattle.questions.proofs.Read.{index-tests}
 use Rattle.listing.specs.declared.Listing.{Listing}
 use Rattle.listing.specs.Paging.{Call, callText, callPhrase, callPage, pageCases, pageAnswer, pageOf}
 use Rattle.listing.specs.Completeness.{outcomeOf, IsPart, Brings}

@@ -51,16 +51,15 @@ pub neighbours-mirrored : (t : List ℕ) (w v : ℕ) (d : ℤ)
 neighbours-mirrored t w v d = mirror t w v d ∙ neighbours-along t v w (negℤ d)
 
 -- at a place with w, the place moved by the offset decides
-module _ (t : List ℕ) (w v : ℕ) (d : ℤ) (q : ℕ) (inside : q < length t) (word : getD t q 0 ≡ w) where
-  -- w stands there
-  here : standsAt t w (pos q) ≡ true
-  unfolding standsAt
-  here = rw (lt-ltb q (length t) inside, eq-eqb (getD t q 0) w word)
+pub neighbour-test : (t : List ℕ) (w v : ℕ) (d : ℤ) (q : ℕ) → q < length t → getD t q 0 ≡ w → neighbourAt t w v d q ≡ standsAt t v (pos q +ℤ d)
+unfolding standsAt neighbourAt
+neighbour-test t w v d q inside word = rw (lt-ltb q (length t) inside, eq-eqb (getD t q 0) w word)
 
-  -- a place inside the text decides by its word
-  pub neighbour-at : (p : ℕ) → shiftedOf q d (length t) ≡ At p → neighbourAt t w v d q ≡ eqb (getD t p 0) v
-  unfolding standsAt neighbourAt shiftedOf
-  neighbour-at p e = rw here (by (pos q +ℤ d) e)
+module _ (t : List ℕ) (v : ℕ) (d : ℤ) (q : ℕ) where
+  -- where that is inside the text, its word decides
+  pub stands-moved : (p : ℕ) → shiftedOf q d (length t) ≡ At p → standsAt t v (pos q +ℤ d) ≡ eqb (getD t p 0) v
+  unfolding standsAt shiftedOf
+  stands-moved p e = by (pos q +ℤ d) e
     where
       by : (z : ℤ) → placeWithin z (length t) ≡ At p → standsAt t v z ≡ eqb (getD t p 0) v
       by (pos k) e = go (ltb k (length t)) e
@@ -70,10 +69,10 @@ module _ (t : List ℕ) (w v : ℕ) (d : ℤ) (q : ℕ) (inside : q < length t) 
           go false e = let z : _≡_ {A = ℕ} 0 1 = cc in absurd (omega arith)
       by (negsuc k) e = let z : _≡_ {A = ℕ} 0 1 = cc in absurd (omega arith)
 
-  -- a place outside the text has no word
-  pub neighbour-outside : shiftedOf q d (length t) ≡ Outside → neighbourAt t w v d q ≡ false
-  unfolding standsAt neighbourAt shiftedOf
-  neighbour-outside e = rw here (by (pos q +ℤ d) e)
+  -- outside the text stands no word
+  pub stands-outside : shiftedOf q d (length t) ≡ Outside → standsAt t v (pos q +ℤ d) ≡ false
+  unfolding standsAt shiftedOf
+  stands-outside e = by (pos q +ℤ d) e
     where
       by : (z : ℤ) → placeWithin z (length t) ≡ Outside → standsAt t v z ≡ false
       by (pos k) e = go (ltb k (length t)) e

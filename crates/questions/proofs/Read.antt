@@ -9,7 +9,7 @@ use lib.ListN.{length, take, drop, getD, length-take, length-drop}
 use lib.Seq.{take-all, drop-length}
 use Rattle.base.specs.Refusals.{refusalPlace}
 use Rattle.base.specs.Answers.{accepted, refused, isAccepted, Case, _⇒_, NoneHolds}
-use Rattle.base.proofs.Answers.{answers, none-holds, filled-front}
+use Rattle.base.proofs.Answers.{answers, none-holds, none-append, filled-front}
 use Rattle.dense.specs.Code.{vocabularyCase}
 use Rattle.directory.specs.Counters.{blocksCase}
 use Rattle.index.specs.declared.Shape.{Shape}
@@ -27,11 +27,6 @@ use Rattle.questions.specs.Laws.{IndexReadByCalls}
 pub index-tests : (s : ℕ) (shape : Shape) (a : Arrays) → checkAnswer s shape a ≡ accepted 0 → NoneHolds (indexCases s shape a)
 unfolding checkAnswer indexCases vocabularyCase blocksCase
 index-tests s shape a e = none-holds (indexCases s shape a) (accepted 0) (refl, (refl, (refl, tt))) (ap isAccepted e)
-
--- nor does one of two lists of tests if none of each holds
-pub none-append : (xs ys : List Case) → NoneHolds xs → NoneHolds ys → NoneHolds (xs ++ ys)
-none-append [] ys a b = b
-none-append ((test ⇒ r) ∷ xs) ys a b = (a .0, none-append xs ys (a .1) b)
 
 -- over an index that passes, a question is answered of its text
 pub ask-passed : (s : ℕ) (shape : Shape) (a : Arrays) (words : List ℕ) (q : Question) → checkAnswer s shape a ≡ accepted 0 → askAnswer s shape a words q ≡ questionAnswer (shape .vocabulary) (textIn s a) words q

@@ -1,1 +1,239 @@
-// Words over a passed index.
+// The words of an index: the rank at a place, how often a rank stands below a place, and where it
+// stands for the j-th time, by walks down and up the byte tree. A walk passes at most three nodes,
+// and asks the directory at most twice in each.
+//
+// No function of this crate is an entry: the public ones require that the four slices have passed
+// the check and that `starts` is a table that `node_starts` has filled, the others what their
+// callers have shown. What they answer is defined over the text of the slices.
+ghost use mathlib.Core.Path.{_≡_};
+ghost use Prim.Native.Nat.{_≤_, _<_};
+ghost use lib.ListN.{length, getD, take};
+ghost use Rattle.base.specs.Lists.{total, countOf, nth};
+ghost use Rattle.directory.specs.Counters.{maxBytes};
+ghost use Rattle.tree.specs.Nodes.{position};
+ghost use Rattle.index.specs.Arrays.{arrays, textIn};
+ghost use Rattle.words.specs.Words.{rankAt, occurrencesBelow, frequency};
+ghost use Rattle.words.specs.Ready.{NodeStarts, nodeFrom, Counted, Ready, WordsOf};
+use index::Shape;
+use tree::Place;
+use tree::Position;
+
+// Writes where each node starts in the node bytes, and the end of the last, to the front of a table.
+pub fn node_starts(lengths: &[u32], starts: &mut [u32])
+    requires { ⌜ (length (now lengths) < length (now starts)) × (total (now lengths) ≤ maxBytes) ⌝ }
+    ensures { λ _. ⌜ NodeStarts (now (lengths .entry)) (now (starts .exit)) ⌝ }
+{
+    let mut start: u32 = 0;
+    let mut node = 0;
+    while node < lengths.len() {
+        starts[node] = start;
+        start += lengths[node];
+        node += 1;
+    }
+    starts[node] = start;
+}
+
+// The number of words of the text: the length of the root.
+pub fn text_length(lengths: &[u32]) -> usize
+    requires { ⌜ 0 < length (now lengths) ⌝ }
+    ensures { λ r. ⌜ (r ≡ getD (now (lengths .entry)) 0 0) × WordsOf (now (lengths .entry)) r ⌝ }
+{
+    lengths[0] as usize
+}
+
+// The byte at a position of a node.
+fn byte_at(bytes: &[u8], starts: &[u32], node: usize, at: Position) -> u8
+    requires { ⌜ (node < length (now starts)) × (at .0 < length (nodeFrom (now bytes) (now starts) node)) ⌝ }
+    ensures { λ r. ⌜ r ≡ getD (nodeFrom (now (bytes .entry)) (now (starts .entry)) node) (at .0) 0 ⌝ }
+{
+    let start = starts[node] as usize;
+    bytes[start + at.0]
+}
+
+// How often a byte stands below a position of a node: so often it stands below the position in all
+// bytes, less those before the node. For a byte that leads on it is the position in its child.
+fn count_in_node(
+    shape: Shape,
+    bytes: &[u8],
+    superblocks: &[u32],
+    blocks: &[u16],
+    starts: &[u32],
+    node: usize,
+    byte: u8,
+    at: Position,
+) -> usize
+    requires { ⌜ Counted shape (now bytes) (now superblocks) (now blocks) (now starts) node × (at .0 ≤ length (nodeFrom (now bytes) (now starts) node)) ⌝ }
+    ensures { λ r. ⌜ r ≡ countOf byte (take (at .0) (nodeFrom (now (bytes .entry)) (now (starts .entry)) node)) ⌝ }
+{
+    let start = starts[node] as usize;
+    let block = shape.block;
+    let per = shape.per_superblock;
+    let before = directory::count_below(bytes, superblocks, blocks, block, per, byte, start);
+    let below = directory::count_below(bytes, superblocks, blocks, block, per, byte, start + at.0);
+    below - before
+}
+
+// The position in a node of the byte that has j others equal to it before it in the node.
+fn nth_in_node(
+    shape: Shape,
+    bytes: &[u8],
+    superblocks: &[u32],
+    blocks: &[u16],
+    starts: &[u32],
+    node: usize,
+    byte: u8,
+    j: usize,
+) -> Position
+    requires { ⌜ Counted shape (now bytes) (now superblocks) (now blocks) (now starts) node × (j < countOf byte (nodeFrom (now bytes) (now starts) node)) ⌝ }
+    ensures { λ r. ⌜ r .0 ≡ nth byte j (nodeFrom (now (bytes .entry)) (now (starts .entry)) node) ⌝ }
+{
+    let start = starts[node] as usize;
+    let block = shape.block;
+    let per = shape.per_superblock;
+    let skipped = directory::count_below(bytes, superblocks, blocks, block, per, byte, start);
+    let found = directory::nth(bytes, superblocks, blocks, block, per, byte, skipped + j);
+    let at = found - start;
+    Position(at)
+}
+
+// The position in a node of a place of the text or of its end: by the position in the node's parent.
+fn position_in(
+    s: usize,
+    shape: Shape,
+    lengths: &[u32],
+    bytes: &[u8],
+    superblocks: &[u32],
+    blocks: &[u16],
+    starts: &[u32],
+    node: usize,
+    place: Place,
+) -> Position
+    requires { ⌜ Ready s shape (arrays (now lengths) (now bytes) (now superblocks) (now blocks)) (now starts) × (node < length (now lengths)) × (place .0 ≤ length (textIn s (arrays (now lengths) (now bytes) (now superblocks) (now blocks)))) ⌝ }
+    ensures { λ r. ⌜ r .0 ≡ position s node (place .0) (textIn s (arrays (now (lengths .entry)) (now (bytes .entry)) (now (superblocks .entry)) (now (blocks .entry)))) ⌝ }
+{
+    if node == 0 {
+        return tree::root_position(place);
+    }
+    let up = tree::parent(s, node);
+    let byte = tree::digit(s, node);
+    let at = position_in(
+        s,
+        shape,
+        lengths,
+        bytes,
+        superblocks,
+        blocks,
+        starts,
+        up,
+        place,
+    );
+    Position(count_in_node(shape, bytes, superblocks, blocks, starts, up, byte, at))
+}
+
+// The rank at a place of the text: down from the root, to the byte that closes the word.
+pub fn word_at(
+    s: usize,
+    shape: Shape,
+    lengths: &[u32],
+    bytes: &[u8],
+    superblocks: &[u32],
+    blocks: &[u16],
+    starts: &[u32],
+    place: Place,
+) -> u32
+    requires { ⌜ Ready s shape (arrays (now lengths) (now bytes) (now superblocks) (now blocks)) (now starts) × (place .0 < length (textIn s (arrays (now lengths) (now bytes) (now superblocks) (now blocks)))) ⌝ }
+    ensures { λ r. ⌜ r ≡ rankAt (textIn s (arrays (now (lengths .entry)) (now (bytes .entry)) (now (superblocks .entry)) (now (blocks .entry)))) (place .0) ⌝ }
+{
+    let least = 256 - s;
+    let mut node = 0;
+    let mut at = tree::root_position(place);
+    let mut byte = byte_at(bytes, starts, node, at);
+    while (byte as usize) < least {
+        let below = count_in_node(shape, bytes, superblocks, blocks, starts, node, byte, at);
+        node = tree::child(s, node, byte);
+        at = Position(below);
+        byte = byte_at(bytes, starts, node, at);
+    }
+    (s * node + (byte as usize - least)) as u32
+}
+
+// How often a rank stands below a place of the text, or in the whole text at its end: so often its
+// closing byte stands below the position of the place in the node where its codeword ends.
+pub fn occurrences_below(
+    s: usize,
+    shape: Shape,
+    lengths: &[u32],
+    bytes: &[u8],
+    superblocks: &[u32],
+    blocks: &[u16],
+    starts: &[u32],
+    rank: usize,
+    place: Place,
+) -> usize
+    requires { ⌜ Ready s shape (arrays (now lengths) (now bytes) (now superblocks) (now blocks)) (now starts) × (rank < shape .vocabulary) × (place .0 ≤ length (textIn s (arrays (now lengths) (now bytes) (now superblocks) (now blocks)))) ⌝ }
+    ensures { λ r. ⌜ r ≡ occurrencesBelow (textIn s (arrays (now (lengths .entry)) (now (bytes .entry)) (now (superblocks .entry)) (now (blocks .entry)))) rank (place .0) ⌝ }
+{
+    let node = tree::node_of(s, rank);
+    let byte = tree::closing_byte(s, rank);
+    let at = position_in(
+        s,
+        shape,
+        lengths,
+        bytes,
+        superblocks,
+        blocks,
+        starts,
+        node,
+        place,
+    );
+    count_in_node(shape, bytes, superblocks, blocks, starts, node, byte, at)
+}
+
+// How often a rank stands in the text: so often its closing byte stands in its node.
+pub fn frequency(
+    s: usize,
+    shape: Shape,
+    lengths: &[u32],
+    bytes: &[u8],
+    superblocks: &[u32],
+    blocks: &[u16],
+    starts: &[u32],
+    rank: usize,
+) -> usize
+    requires { ⌜ Ready s shape (arrays (now lengths) (now bytes) (now superblocks) (now blocks)) (now starts) × (rank < shape .vocabulary) ⌝ }
+    ensures { λ r. ⌜ r ≡ frequency (textIn s (arrays (now (lengths .entry)) (now (bytes .entry)) (now (superblocks .entry)) (now (blocks .entry)))) rank ⌝ }
+{
+    let node = tree::node_of(s, rank);
+    let byte = tree::closing_byte(s, rank);
+    let size = lengths[node] as usize;
+    let end = Position(size);
+    count_in_node(shape, bytes, superblocks, blocks, starts, node, byte, end)
+}
+
+// The place at which a rank stands with j others of it before it: up from its closing byte in the
+// node where its codeword ends, to the root, where a position is a place.
+pub fn place_of(
+    s: usize,
+    shape: Shape,
+    lengths: &[u32],
+    bytes: &[u8],
+    superblocks: &[u32],
+    blocks: &[u16],
+    starts: &[u32],
+    rank: usize,
+    j: usize,
+) -> Place
+    requires { ⌜ Ready s shape (arrays (now lengths) (now bytes) (now superblocks) (now blocks)) (now starts) × (rank < shape .vocabulary) × (j < frequency (textIn s (arrays (now lengths) (now bytes) (now superblocks) (now blocks))) rank) ⌝ }
+    ensures { λ r. ⌜ r .0 ≡ nth rank j (textIn s (arrays (now (lengths .entry)) (now (bytes .entry)) (now (superblocks .entry)) (now (blocks .entry)))) ⌝ }
+{
+    let mut node = tree::node_of(s, rank);
+    let byte = tree::closing_byte(s, rank);
+    let mut at = nth_in_node(shape, bytes, superblocks, blocks, starts, node, byte, j);
+    while 0 < node {
+        let up = tree::parent(s, node);
+        let digit = tree::digit(s, node);
+        at = nth_in_node(shape, bytes, superblocks, blocks, starts, up, digit, at.0);
+        node = up;
+    }
+    Place(at.0)
+}

@@ -1,0 +1,193 @@
+// The nodes of a text: their lengths are counted, and then each byte of each codeword is written
+// behind those that its node has so far. Inner functions: their callers have checked the sizes.
+ghost use mathlib.Core.Path.{_≡_};
+ghost use mathlib.Core.List.{flatten};
+ghost use Prim.Native.Nat.{_+_, _≤_, _<_};
+ghost use lib.ListN.{length, getD, set, take, replicate};
+ghost use Rattle.base.specs.Lists.{total};
+ghost use Rattle.dense.specs.Code.{Closing};
+ghost use Rattle.dense.specs.Streams.{stream};
+ghost use Rattle.directory.specs.Counters.{maxBytes};
+ghost use Rattle.tree.specs.Nodes.{nodeBytes};
+ghost use Rattle.index.specs.Arrays.{arrays, indexOf};
+ghost use Rattle.index.specs.Exact.{WithinLimits};
+ghost use Rattle.index.specs.Filling.{tooShort, Buildable, fronts, firstNodes, nodeLengths, InNodes, Counted, StartsOf, Parted, Stands};
+use crate::Shape;
+
+// Whether one of the slices is too short for an index of so many bytes.
+pub fn is_shorter(
+    s: usize,
+    shape: Shape,
+    needed: usize,
+    lengths: &[u32],
+    bytes: &[u8],
+    superblocks: &[u32],
+    blocks: &[u16],
+) -> bool
+    requires { ⌜ Closing s × WithinLimits s shape × (needed ≤ maxBytes) ⌝ }
+    ensures { λ r. ⌜ r ≡ tooShort s shape needed (arrays (now (lengths .entry)) (now (bytes .entry)) (now (superblocks .entry)) (now (blocks .entry))) ⌝ }
+{
+    let nodes = tree::node_count(s, shape.vocabulary);
+    let superblock_rows = counters::row_count(needed, shape.block * shape.per_superblock);
+    let block_rows = counters::row_count(needed, shape.block);
+    (lengths.len() < nodes)
+        | (bytes.len() < needed)
+        | (superblocks.len() < superblock_rows * 256)
+        | (blocks.len() < block_rows * 256)
+}
+
+// Sets all lengths to 0.
+fn clear(lengths: &mut [u32])
+    ensures { λ _. ⌜ now (lengths .exit) ≡ replicate (length (now (lengths .entry))) 0 ⌝ }
+{
+    let mut node = 0;
+    while node < lengths.len() {
+        lengths[node] = 0;
+        node += 1;
+    }
+}
+
+// Adds 1 to the length of each node in which the word at a place has a byte.
+fn count_word(s: usize, text: &[u32], place: usize, lengths: &mut [u32])
+    requires { ⌜ InNodes s (length (now lengths)) (now text) × (place < length (now text)) × Counted (λ k. nodeBytes s k (take place (now text))) (now lengths) ⌝ }
+    ensures { λ _. ⌜ Counted (λ k. nodeBytes s k (take (place + 1) (now (text .entry)))) (now (lengths .exit)) ⌝ }
+{
+    let word = dense::encode(s, text[place] as usize);
+    let code = [word.first, word.second, word.third];
+    let count = word.length;
+    let mut node: usize = 0;
+    let mut i: usize = 0;
+    while i < count {
+        lengths[node] += 1;
+        node = tree::child(s, node, code[i]);
+        i += 1;
+    }
+}
+
+// Makes the lengths those of the nodes of a text.
+fn count_nodes(s: usize, text: &[u32], lengths: &mut [u32])
+    requires { ⌜ InNodes s (length (now lengths)) (now text) ⌝ }
+    ensures { λ _. ⌜ now (lengths .exit) ≡ nodeLengths s (length (now (lengths .entry))) (now (text .entry)) ⌝ }
+{
+    clear(lengths);
+    let mut place = 0;
+    while place < text.len() {
+        count_word(s, text, place, lengths);
+        place += 1;
+    }
+}
+
+// Writes the start of each node and, past the last, the end of all nodes.
+fn node_starts(lengths: &[u32], starts: &mut [u32])
+    requires { ⌜ (length (now lengths) < length (now starts)) × (total (now lengths) ≤ maxBytes) ⌝ }
+    ensures { λ _. ⌜ StartsOf (now (lengths .entry)) (now (starts .exit)) ⌝ }
+{
+    let mut sum: u32 = 0;
+    let mut node = 0;
+    while node < lengths.len() {
+        starts[node] = sum;
+        sum += lengths[node];
+        node += 1;
+    }
+    starts[node] = sum;
+}
+
+// Writes a byte at a position of a node, whose bytes begin the part; the rest stays.
+fn put(part: &mut [u8], position: usize, byte: u8)
+    requires { ⌜ position < length (now part) ⌝ }
+    ensures { λ _. ⌜ now (part .exit) ≡ set (now (part .entry)) position byte ⌝ }
+{
+    part[position] = byte;
+}
+
+// Writes a byte behind those that a node has so far, and adds 1 to the length of the node.
+fn write_byte(starts: &[u32], lengths: &mut [u32], bytes: &mut [u8], node: usize, byte: u8)
+    requires { ⌜ (node < length (now starts)) × (node < length (now lengths)) × (getD (now lengths) node 0 < maxBytes)
+        × (getD (now starts) node 0 + getD (now lengths) node 0 < length (now bytes)) ⌝ }
+    ensures { λ _. ⌜ (now (lengths .exit) ≡ set (now (lengths .entry)) node (getD (now (lengths .entry)) node 0 + 1))
+        × (now (bytes .exit) ≡ set (now (bytes .entry)) (getD (now (starts .entry)) node 0 + getD (now (lengths .entry)) node 0) byte) ⌝ }
+{
+    let start = starts[node] as usize;
+    let position = lengths[node];
+    put(&mut bytes[start..], position as usize, byte);
+    lengths[node] = position + 1;
+}
+
+// Writes the bytes of the word at a place, each behind those that its node has so far.
+fn write_word(
+    s: usize,
+    text: &[u32],
+    place: usize,
+    starts: &[u32],
+    lengths: &mut [u32],
+    bytes: &mut [u8],
+)
+    requires { ⌜ InNodes s (length (now lengths)) (now text) × Parted s (length (now lengths)) (now text) (now starts) (now bytes) × (place < length (now text)) ⌝ }
+    requires { ⌜ Counted (λ k. nodeBytes s k (take place (now text))) (now lengths)
+        × Stands (λ k. nodeBytes s k (take place (now text))) (length (now lengths)) (now starts) (now bytes) ⌝ }
+    ensures { λ _. ⌜ Counted (λ k. nodeBytes s k (take (place + 1) (now (text .entry)))) (now (lengths .exit))
+        × Stands (λ k. nodeBytes s k (take (place + 1) (now (text .entry)))) (length (now (lengths .exit))) (now (starts .entry)) (now (bytes .exit)) ⌝ }
+{
+    let word = dense::encode(s, text[place] as usize);
+    let code = [word.first, word.second, word.third];
+    let size = word.length;
+    let mut node: usize = 0;
+    let mut i: usize = 0;
+    while i < size {
+        write_byte(starts, lengths, bytes, node, code[i]);
+        node = tree::child(s, node, code[i]);
+        i += 1;
+    }
+}
+
+// Writes the bytes of all words, each into the part that begins at the start of its node.
+fn write_words(s: usize, text: &[u32], starts: &[u32], lengths: &mut [u32], bytes: &mut [u8])
+    requires { ⌜ InNodes s (length (now lengths)) (now text) × Parted s (length (now lengths)) (now text) (now starts) (now bytes) ⌝ }
+    ensures { λ _. ⌜ (now (lengths .exit) ≡ nodeLengths s (length (now (lengths .entry))) (now (text .entry)))
+        × (now (bytes .exit) ≡ flatten (firstNodes s (length (now (lengths .entry))) (now (text .entry)))) ⌝ }
+{
+    clear(lengths);
+    let mut place = 0;
+    while place < text.len() {
+        write_word(s, text, place, starts, lengths, bytes);
+        place += 1;
+    }
+}
+
+// Makes the lengths and the bytes those of the nodes of a text.
+fn write_nodes(s: usize, text: &[u32], lengths: &mut [u32], bytes: &mut [u8])
+    requires { ⌜ InNodes s (length (now lengths)) (now text) × (total (nodeLengths s (length (now lengths)) (now text)) ≡ length (now bytes)) ⌝ }
+    ensures { λ _. ⌜ (now (lengths .exit) ≡ nodeLengths s (length (now (lengths .entry))) (now (text .entry)))
+        × (now (bytes .exit) ≡ flatten (firstNodes s (length (now (lengths .entry))) (now (text .entry)))) ⌝ }
+{
+    let mut starts = [0u32; 65282];
+    count_nodes(s, text, lengths);
+    node_starts(lengths, &mut starts);
+    write_words(s, text, &starts, lengths, bytes);
+}
+
+// Writes the index of a text to the fronts of the four slices; the rest stays.
+pub fn write_index(
+    s: usize,
+    shape: Shape,
+    text: &[u32],
+    needed: usize,
+    lengths: &mut [u32],
+    bytes: &mut [u8],
+    superblocks: &mut [u32],
+    blocks: &mut [u16],
+)
+    requires { ⌜ Buildable s shape (now text) (arrays (now lengths) (now bytes) (now superblocks) (now blocks)) × (needed ≡ length (stream s (now text))) ⌝ }
+    ensures { λ _. ⌜ arrays (now (lengths .exit)) (now (bytes .exit)) (now (superblocks .exit)) (now (blocks .exit))
+        ≡ fronts (indexOf s shape (now (text .entry))) (arrays (now (lengths .entry)) (now (bytes .entry)) (now (superblocks .entry)) (now (blocks .entry))) ⌝ }
+{
+    let nodes = tree::node_count(s, shape.vocabulary);
+    write_nodes(s, text, &mut lengths[..nodes], &mut bytes[..needed]);
+    counters::fill(
+        &bytes[..needed],
+        superblocks,
+        blocks,
+        shape.block,
+        shape.per_superblock,
+    );
+}

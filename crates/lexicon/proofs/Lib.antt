@@ -1,0 +1,9 @@
+pub mod Tables
+pub mod Scans
+pub mod Written
+pub mod Members
+pub mod Parts
+pub mod Listed
+pub mod Calls
+pub mod Theorem
+pub mod Samples

@@ -1,0 +1,52 @@
+-- `lexicon::write_part` meets its contract: the hash table is the one that is made. Assumes nothing.
+use mathlib.Core.Path.{refl}
+use borrow.Author.Needs.{needs}
+use Rattle.lexicon.proofs.write_part.Statement.{statement}
+use Rattle.lexicon.proofs.write_part.Tie as tie
+
+slice-aggregate-build : tie.Need-slice-aggregate-build
+slice-aggregate-build c = refl
+
+slice-aggregate-build-2 : tie.Need-slice-aggregate-build-2
+slice-aggregate-build-2 c = refl
+
+slice-aggregate-build-3 : tie.Need-slice-aggregate-build-3
+slice-aggregate-build-3 c = refl
+
+build-requires : tie.Need-build-requires
+build-requires c κs = let start = c .before .before .before .before .before .before .before in
+    (start .pre .0, start .pre .1, start .pre .2, start .pre .3, refl, refl, refl)
+
+slice-aggregate-write-found : tie.Need-slice-aggregate-write-found
+slice-aggregate-write-found c = search needs
+
+slice-aggregate-write-found-2 : tie.Need-slice-aggregate-write-found-2
+slice-aggregate-write-found-2 c = search needs
+
+slice-aggregate-write-found-3 : tie.Need-slice-aggregate-write-found-3
+slice-aggregate-write-found-3 c = search needs
+
+write-found-requires : tie.Need-write-found-requires
+write-found-requires c κs = let start = c .before .before .before .before .before .before .before .before .before .before .before .before .before .before .before in
+    (start .pre .0, c .before .before .before .before .before .before .before .build .ensures, start .pre .4, start .pre .5, start .pre .6)
+
+same-length : tie.Need-same-length
+same-length c = search needs
+
+returns : tie.Need-returns
+returns c = c .before .before .write-found .ensures
+
+pub write-part-spec : {M : Type 1} → statement M
+write-part-spec =
+    tie.close
+    (tie.spec
+    slice-aggregate-build
+    slice-aggregate-build-2
+    slice-aggregate-build-3
+    build-requires
+    slice-aggregate-write-found
+    slice-aggregate-write-found-2
+    slice-aggregate-write-found-3
+    write-found-requires
+    same-length
+    returns)

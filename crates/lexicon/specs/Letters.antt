@@ -1,0 +1,46 @@
+-- The letter table over ISO 8859-1, and the rule of a table.
+use Prim.Native.Nat.{ℕ, _+_}
+use mathlib.Core.Path.{_≡_}
+use mathlib.Core.Bool.{Bool, true, cond, not, _&&_, _||_}
+use mathlib.Core.List.{List, map}
+use lib.Dec.{eqb}
+use lib.ListN.{length, getD}
+use Rattle.base.specs.Lists.{allPass, rangeFrom}
+use Rattle.base.specs.Texts.{outside}
+
+-- whether a byte is from low to high
+unfoldable pub within : ℕ → ℕ → ℕ → Bool
+within low high x = not (outside low high x)
+
+-- the entry of a byte: digits, small letters, DF and the small letters above it keep their value, capitals gain 20, the rest are 0
+unfoldable pub letterOf : ℕ → ℕ
+letterOf x =
+    cond (within 0x30 0x39 x || within 0x61 0x7A x) x
+    (cond (within 0x41 0x5A x) (x + 0x20)
+    (cond (within 0xC0 0xDE x && not (eqb x 0xD7)) (x + 0x20)
+    (cond (within 0xDF 0xFF x && not (eqb x 0xF7)) x
+    0)))
+
+-- the letter table
+unfoldable pub letters : List ℕ
+letters = map letterOf (rangeFrom 0 256)
+
+-- what a table folds a byte to; 0 for a separator
+abbrev pub letterIn : List ℕ → ℕ → ℕ
+letterIn table x = getD table x 0
+
+-- whether a table keeps a byte: the byte's entry is the byte itself
+abbrev pub keeps : List ℕ → ℕ → Bool
+keeps table x = eqb (letterIn table x) x
+
+-- the byte that closes a word of a list
+abbrev pub closingByte : ℕ
+closingByte = 0x0A
+
+-- the rule of a table: it has 256 entries, each 0 or a byte that the table keeps; and the byte that closes the words of a list is a separator
+unfoldable pub isTable : List ℕ → Bool
+isTable table = eqb (length table) 256 && allPass (λ x. eqb x 0 || keeps table x) table && eqb (letterIn table closingByte) 0
+
+-- Statement: the letter table follows the rule.
+abbrev pub LettersRule : Type 0
+LettersRule = isTable letters ≡ true

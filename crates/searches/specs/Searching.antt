@@ -1,0 +1,30 @@
+-- What the searches of this crate require and answer, over the text of arrays that have passed the check.
+use Prim.Native.Nat.{ℕ, _≤_, _<_}
+use mathlib.Core.Path.{_≡_}
+use mathlib.Core.Bool.{Bool}
+use mathlib.Core.List.{List}
+use lib.ListN.{length, getD}
+use Rattle.base.specs.Lists.{Below}
+use Rattle.base.specs.Texts.{maxPhrase}
+use Rattle.index.specs.declared.Shape.{Shape}
+use Rattle.index.specs.Arrays.{Arrays}
+use Rattle.words.specs.Words.{frequency}
+use Rattle.words.specs.Ready.{Ready}
+use Rattle.pages.specs.Pages
+use Rattle.searches.specs.declared.Written.{Written}
+
+-- the arrays have passed the check, the table has their node starts, and the phrase has 1 to 16 words of the vocabulary
+pub record Searchable (s : ℕ) (shape : Shape) (a : Arrays) (starts phrase : List ℕ) : Type 0 where
+  pub ready : Ready s shape a starts
+  pub some : 1 ≤ length phrase
+  pub most : length phrase ≤ maxPhrase
+  pub below : Below (shape .vocabulary) phrase
+
+-- the word at index r of a phrase is one of its rarest: none of its words stands less often in the text
+pub record Rarest (t phrase : List ℕ) (r : ℕ) : Type 0 where
+  pub inside : r < length phrase
+  pub least : (i : ℕ) → i < length phrase → frequency t (getD phrase r 0) ≤ frequency t (getD phrase i 0)
+
+-- what a page over an unfinished state comes to, as it is handed on
+abbrev pub writtenOf : Pages.Page → Written
+writtenOf p = record { count = length (p .found); more = p .more; next = p .next; finished = p .finished }

@@ -1,0 +1,306 @@
+// The searches of phrases and neighbours over an index: along the occurrences of one word, testing
+// each candidate. A search costs the occurrences of its rarest word, never a scan of the text.
+//
+// No function of this crate is an entry: each requires that the four slices have passed the check,
+// and `starts` is the table that `index::node_starts` fills.
+ghost use mathlib.Core.Path.{_≡_};
+ghost use mathlib.Core.Bool.{false};
+ghost use Prim.Native.Nat.{_+_, _≤_, _<_};
+ghost use lib.Dec.{eqb};
+ghost use lib.IntN.{pos, _+ℤ_, natAbs};
+ghost use lib.ListN.{length, getD, take, drop};
+ghost use Rattle.base.specs.Lists.{Below, countOf};
+ghost use Rattle.base.specs.Texts.{maxPhrase, maxOffset};
+ghost use Rattle.base.specs.Answers.{front};
+ghost use Rattle.index.specs.Arrays.{arrays, textIn};
+ghost use Rattle.words.specs.Ready.{Ready};
+ghost use Rattle.phrases.specs.Phrases.{stands, places};
+ghost use Rattle.phrases.specs.Neighbours.{standsAt, neighbours as neighboursOf};
+ghost use Rattle.pages.specs.Pages.{pageOver};
+ghost use Rattle.searches.specs.Searching.{Searchable, Rarest, writtenOf};
+
+use index::Shape;
+use phrases::Found;
+use tree::Place;
+
+// What a page has written: the number of hits, whether more follow, and the state after it.
+pub struct Written {
+    pub count: usize,
+    pub more: bool,
+    pub next: usize,
+    pub finished: bool,
+}
+
+// Whether a rank stands at a place of the text: the whole word is read.
+pub fn agrees_at(
+    s: usize,
+    shape: Shape,
+    lengths: &[u32],
+    bytes: &[u8],
+    superblocks: &[u32],
+    blocks: &[u16],
+    starts: &[u32],
+    place: usize,
+    rank: usize,
+) -> bool
+    requires { ⌜ Ready s shape (arrays (now lengths) (now bytes) (now superblocks) (now blocks)) (now starts) × (place < length (textIn s (arrays (now lengths) (now bytes) (now superblocks) (now blocks)))) ⌝ }
+    ensures { λ r. ⌜ r ≡ eqb (getD (textIn s (arrays (now (lengths .entry)) (now (bytes .entry)) (now (superblocks .entry)) (now (blocks .entry)))) place 0) rank ⌝ }
+{
+    let found = words::word_at(s, shape, lengths, bytes, superblocks, blocks, starts, Place(place));
+    found as usize == rank
+}
+
+// Whether a phrase stands at a place of the text.
+pub fn stands_at(
+    s: usize,
+    shape: Shape,
+    lengths: &[u32],
+    bytes: &[u8],
+    superblocks: &[u32],
+    blocks: &[u16],
+    starts: &[u32],
+    phrase: &[u32],
+    place: usize,
+) -> bool
+    requires { ⌜ Searchable s shape (arrays (now lengths) (now bytes) (now superblocks) (now blocks)) (now starts) (now phrase) × (place ≤ length (textIn s (arrays (now lengths) (now bytes) (now superblocks) (now blocks)))) ⌝ }
+    ensures { λ r. ⌜ r ≡ stands (textIn s (arrays (now (lengths .entry)) (now (bytes .entry)) (now (superblocks .entry)) (now (blocks .entry)))) (now (phrase .entry)) place ⌝ }
+{
+    let n = words::text_length(lengths);
+    if n < place + phrase.len() {
+        return false;
+    }
+    let mut i: usize = 0;
+    while i < phrase.len() {
+        let rank = phrase[i] as usize;
+        if !agrees_at(s, shape, lengths, bytes, superblocks, blocks, starts, place + i, rank) {
+            return false;
+        }
+        i += 1;
+    }
+    true
+}
+
+// The index of a word of a phrase than which none of its words stands less often in the text.
+pub fn rarest(
+    s: usize,
+    shape: Shape,
+    lengths: &[u32],
+    bytes: &[u8],
+    superblocks: &[u32],
+    blocks: &[u16],
+    starts: &[u32],
+    phrase: &[u32],
+) -> usize
+    requires { ⌜ Searchable s shape (arrays (now lengths) (now bytes) (now superblocks) (now blocks)) (now starts) (now phrase) ⌝ }
+    ensures { λ r. ⌜ Rarest (textIn s (arrays (now (lengths .entry)) (now (bytes .entry)) (now (superblocks .entry)) (now (blocks .entry)))) (now (phrase .entry)) r ⌝ }
+{
+    let mut rare: usize = 0;
+    let mut least = words::frequency(s, shape, lengths, bytes, superblocks, blocks, starts, phrase[0] as usize);
+    let mut i: usize = 1;
+    while i < phrase.len() {
+        let often = words::frequency(s, shape, lengths, bytes, superblocks, blocks, starts, phrase[i] as usize);
+        if often < least {
+            least = often;
+            rare = i;
+        }
+        i += 1;
+    }
+    rare
+}
+
+// How often a rank stands below a place, which may lie past the end of the text.
+pub fn below(
+    s: usize,
+    shape: Shape,
+    lengths: &[u32],
+    bytes: &[u8],
+    superblocks: &[u32],
+    blocks: &[u16],
+    starts: &[u32],
+    rank: usize,
+    place: usize,
+) -> usize
+    requires { ⌜ Ready s shape (arrays (now lengths) (now bytes) (now superblocks) (now blocks)) (now starts) × (rank < shape .vocabulary) ⌝ }
+    ensures { λ r. ⌜ r ≡ countOf rank (take place (textIn s (arrays (now (lengths .entry)) (now (bytes .entry)) (now (superblocks .entry)) (now (blocks .entry))))) ⌝ }
+{
+    let end = base::least(place, words::text_length(lengths));
+    words::occurrences_below(s, shape, lengths, bytes, superblocks, blocks, starts, rank, Place(end))
+}
+
+// How often a phrase stands in the text: along the occurrences of its rarest word.
+pub fn count_phrase(
+    s: usize,
+    shape: Shape,
+    lengths: &[u32],
+    bytes: &[u8],
+    superblocks: &[u32],
+    blocks: &[u16],
+    starts: &[u32],
+    phrase: &[u32],
+) -> usize
+    requires { ⌜ Searchable s shape (arrays (now lengths) (now bytes) (now superblocks) (now blocks)) (now starts) (now phrase) ⌝ }
+    ensures { λ r. ⌜ r ≡ length (places (textIn s (arrays (now (lengths .entry)) (now (bytes .entry)) (now (superblocks .entry)) (now (blocks .entry)))) (now (phrase .entry))) ⌝ }
+{
+    let i = rarest(s, shape, lengths, bytes, superblocks, blocks, starts, phrase);
+    let rank = phrase[i] as usize;
+    let stop = words::frequency(s, shape, lengths, bytes, superblocks, blocks, starts, rank);
+    let mut count: usize = 0;
+    let mut j = below(s, shape, lengths, bytes, superblocks, blocks, starts, rank, i);
+    while j < stop {
+        let place = words::place_of(s, shape, lengths, bytes, superblocks, blocks, starts, rank, j);
+        if stands_at(s, shape, lengths, bytes, superblocks, blocks, starts, phrase, place.0 - i) {
+            count += 1;
+        }
+        j += 1;
+    }
+    count
+}
+
+// Writes the places at or after the next one at which a phrase stands to the front of a slice, until
+// it is full or they run out. It stops at the one hit after a full slice.
+pub fn write_page(
+    s: usize,
+    shape: Shape,
+    lengths: &[u32],
+    bytes: &[u8],
+    superblocks: &[u32],
+    blocks: &[u16],
+    starts: &[u32],
+    phrase: &[u32],
+    next: usize,
+    lines: &mut [u32],
+) -> Written
+    requires { ⌜ Searchable s shape (arrays (now lengths) (now bytes) (now superblocks) (now blocks)) (now starts) (now phrase) × (next ≤ length (textIn s (arrays (now lengths) (now bytes) (now superblocks) (now blocks)))) ⌝ }
+    ensures { λ r. ⌜ (r ≡ writtenOf (pageOver (stands (textIn s (arrays (now (lengths .entry)) (now (bytes .entry)) (now (superblocks .entry)) (now (blocks .entry)))) (now (phrase .entry))) (length (textIn s (arrays (now (lengths .entry)) (now (bytes .entry)) (now (superblocks .entry)) (now (blocks .entry))))) (length (now (lines .entry))) next false))
+        × (now (lines .exit) ≡ front (pageOver (stands (textIn s (arrays (now (lengths .entry)) (now (bytes .entry)) (now (superblocks .entry)) (now (blocks .entry)))) (now (phrase .entry))) (length (textIn s (arrays (now (lengths .entry)) (now (bytes .entry)) (now (superblocks .entry)) (now (blocks .entry))))) (length (now (lines .entry))) next false .found) (now (lines .entry))) ⌝ }
+{
+    let i = rarest(s, shape, lengths, bytes, superblocks, blocks, starts, phrase);
+    let rank = phrase[i] as usize;
+    let stop = words::frequency(s, shape, lengths, bytes, superblocks, blocks, starts, rank);
+    let mut count: usize = 0;
+    let mut last: usize = 0;
+    let mut j = below(s, shape, lengths, bytes, superblocks, blocks, starts, rank, next + i);
+    while j < stop {
+        let place = words::place_of(s, shape, lengths, bytes, superblocks, blocks, starts, rank, j).0 - i;
+        if stands_at(s, shape, lengths, bytes, superblocks, blocks, starts, phrase, place) {
+            if count == lines.len() {
+                return Written {
+                    count,
+                    more: true,
+                    next: last + 1,
+                    finished: false,
+                };
+            }
+            lines[count] = place as u32;
+            count += 1;
+            last = place;
+        }
+        j += 1;
+    }
+    Written {
+        count,
+        more: false,
+        next: words::text_length(lengths),
+        finished: true,
+    }
+}
+
+// Whether a rank stands at an offset from a place: never where that is outside the text.
+fn neighbour_at(
+    s: usize,
+    shape: Shape,
+    lengths: &[u32],
+    bytes: &[u8],
+    superblocks: &[u32],
+    blocks: &[u16],
+    starts: &[u32],
+    rank: usize,
+    place: usize,
+    offset: i32,
+) -> bool
+    requires { ⌜ Ready s shape (arrays (now lengths) (now bytes) (now superblocks) (now blocks)) (now starts) × (place < length (textIn s (arrays (now lengths) (now bytes) (now superblocks) (now blocks)))) ⌝ }
+    ensures { λ r. ⌜ r ≡ standsAt (textIn s (arrays (now (lengths .entry)) (now (bytes .entry)) (now (superblocks .entry)) (now (blocks .entry)))) rank (pos place +ℤ offset) ⌝ }
+{
+    let n = words::text_length(lengths);
+    let found = phrases::shifted(place, offset, n);
+    match found {
+        Found::At(at) => agrees_at(s, shape, lengths, bytes, superblocks, blocks, starts, at, rank),
+        Found::Outside => false,
+    }
+}
+
+// How often a word has another at an offset, along the occurrences of the first.
+fn neighbours_along(
+    s: usize,
+    shape: Shape,
+    lengths: &[u32],
+    bytes: &[u8],
+    superblocks: &[u32],
+    blocks: &[u16],
+    starts: &[u32],
+    w: usize,
+    v: usize,
+    offset: i32,
+) -> usize
+    requires { ⌜ Ready s shape (arrays (now lengths) (now bytes) (now superblocks) (now blocks)) (now starts) × (w < shape .vocabulary) ⌝ }
+    ensures { λ r. ⌜ r ≡ neighboursOf (textIn s (arrays (now (lengths .entry)) (now (bytes .entry)) (now (superblocks .entry)) (now (blocks .entry)))) w v offset ⌝ }
+{
+    let stop = words::frequency(s, shape, lengths, bytes, superblocks, blocks, starts, w);
+    let mut count: usize = 0;
+    let mut j: usize = 0;
+    while j < stop {
+        let place = words::place_of(s, shape, lengths, bytes, superblocks, blocks, starts, w, j);
+        if neighbour_at(s, shape, lengths, bytes, superblocks, blocks, starts, v, place.0, offset) {
+            count += 1;
+        }
+        j += 1;
+    }
+    count
+}
+
+// How often a word has another at an offset: along the occurrences of the rarer of the two, from
+// which the other stands at the offset or at the negated one.
+pub fn neighbours(
+    s: usize,
+    shape: Shape,
+    lengths: &[u32],
+    bytes: &[u8],
+    superblocks: &[u32],
+    blocks: &[u16],
+    starts: &[u32],
+    w: usize,
+    v: usize,
+    offset: i32,
+) -> usize
+    requires { ⌜ Ready s shape (arrays (now lengths) (now bytes) (now superblocks) (now blocks)) (now starts) × (w < shape .vocabulary) × (v < shape .vocabulary) × (natAbs offset ≤ maxOffset) ⌝ }
+    ensures { λ r. ⌜ r ≡ neighboursOf (textIn s (arrays (now (lengths .entry)) (now (bytes .entry)) (now (superblocks .entry)) (now (blocks .entry)))) w v offset ⌝ }
+{
+    let first = words::frequency(s, shape, lengths, bytes, superblocks, blocks, starts, w);
+    let second = words::frequency(s, shape, lengths, bytes, superblocks, blocks, starts, v);
+    if first <= second {
+        return neighbours_along(s, shape, lengths, bytes, superblocks, blocks, starts, w, v, offset);
+    }
+    neighbours_along(s, shape, lengths, bytes, superblocks, blocks, starts, v, w, phrases::negated(offset))
+}
+
+// Fills a slice with the ranks from a place on.
+pub fn read_passage(
+    s: usize,
+    shape: Shape,
+    lengths: &[u32],
+    bytes: &[u8],
+    superblocks: &[u32],
+    blocks: &[u16],
+    starts: &[u32],
+    place: usize,
+    ranks: &mut [u32],
+)
+    requires { ⌜ Ready s shape (arrays (now lengths) (now bytes) (now superblocks) (now blocks)) (now starts) × (place + length (now ranks) ≤ length (textIn s (arrays (now lengths) (now bytes) (now superblocks) (now blocks)))) ⌝ }
+    ensures { λ _. ⌜ now (ranks .exit) ≡ take (length (now (ranks .entry))) (drop place (textIn s (arrays (now (lengths .entry)) (now (bytes .entry)) (now (superblocks .entry)) (now (blocks .entry))))) ⌝ }
+{
+    let mut i: usize = 0;
+    while i < ranks.len() {
+        ranks[i] = words::word_at(s, shape, lengths, bytes, superblocks, blocks, starts, Place(place + i));
+        i += 1;
+    }
+}
