@@ -18,7 +18,6 @@ ghost use Rattle.phrases.specs.Phrases.{stands, places};
 ghost use Rattle.phrases.specs.Neighbours.{standsAt, neighbours as neighboursOf};
 ghost use Rattle.pages.specs.Pages.{pageOver};
 ghost use Rattle.searches.specs.Searching.{Searchable, Rarest, writtenOf};
-
 use index::Shape;
 use phrases::Found;
 use tree::Place;
@@ -46,7 +45,16 @@ pub fn agrees_at(
     requires { ⌜ Ready s shape (arrays (now lengths) (now bytes) (now superblocks) (now blocks)) (now starts) × (place < length (textIn s (arrays (now lengths) (now bytes) (now superblocks) (now blocks)))) ⌝ }
     ensures { λ r. ⌜ r ≡ eqb (getD (textIn s (arrays (now (lengths .entry)) (now (bytes .entry)) (now (superblocks .entry)) (now (blocks .entry)))) place 0) rank ⌝ }
 {
-    let found = words::word_at(s, shape, lengths, bytes, superblocks, blocks, starts, Place(place));
+    let found = words::word_at(
+        s,
+        shape,
+        lengths,
+        bytes,
+        superblocks,
+        blocks,
+        starts,
+        Place(place),
+    );
     found as usize == rank
 }
 
@@ -72,7 +80,17 @@ pub fn stands_at(
     let mut i: usize = 0;
     while i < phrase.len() {
         let rank = phrase[i] as usize;
-        if !agrees_at(s, shape, lengths, bytes, superblocks, blocks, starts, place + i, rank) {
+        if !agrees_at(
+            s,
+            shape,
+            lengths,
+            bytes,
+            superblocks,
+            blocks,
+            starts,
+            place + i,
+            rank,
+        ) {
             return false;
         }
         i += 1;
@@ -95,10 +113,28 @@ pub fn rarest(
     ensures { λ r. ⌜ Rarest (textIn s (arrays (now (lengths .entry)) (now (bytes .entry)) (now (superblocks .entry)) (now (blocks .entry)))) (now (phrase .entry)) r ⌝ }
 {
     let mut rare: usize = 0;
-    let mut least = words::frequency(s, shape, lengths, bytes, superblocks, blocks, starts, phrase[0] as usize);
+    let mut least = words::frequency(
+        s,
+        shape,
+        lengths,
+        bytes,
+        superblocks,
+        blocks,
+        starts,
+        phrase[0] as usize,
+    );
     let mut i: usize = 1;
     while i < phrase.len() {
-        let often = words::frequency(s, shape, lengths, bytes, superblocks, blocks, starts, phrase[i] as usize);
+        let often = words::frequency(
+            s,
+            shape,
+            lengths,
+            bytes,
+            superblocks,
+            blocks,
+            starts,
+            phrase[i] as usize,
+        );
         if often < least {
             least = often;
             rare = i;
@@ -124,7 +160,17 @@ pub fn below(
     ensures { λ r. ⌜ r ≡ countOf rank (take place (textIn s (arrays (now (lengths .entry)) (now (bytes .entry)) (now (superblocks .entry)) (now (blocks .entry))))) ⌝ }
 {
     let end = base::least(place, words::text_length(lengths));
-    words::occurrences_below(s, shape, lengths, bytes, superblocks, blocks, starts, rank, Place(end))
+    words::occurrences_below(
+        s,
+        shape,
+        lengths,
+        bytes,
+        superblocks,
+        blocks,
+        starts,
+        rank,
+        Place(end),
+    )
 }
 
 // How often a phrase stands in the text: along the occurrences of its rarest word.
@@ -141,14 +187,53 @@ pub fn count_phrase(
     requires { ⌜ Searchable s shape (arrays (now lengths) (now bytes) (now superblocks) (now blocks)) (now starts) (now phrase) ⌝ }
     ensures { λ r. ⌜ r ≡ length (places (textIn s (arrays (now (lengths .entry)) (now (bytes .entry)) (now (superblocks .entry)) (now (blocks .entry)))) (now (phrase .entry))) ⌝ }
 {
-    let i = rarest(s, shape, lengths, bytes, superblocks, blocks, starts, phrase);
+    let i = rarest(
+        s,
+        shape,
+        lengths,
+        bytes,
+        superblocks,
+        blocks,
+        starts,
+        phrase,
+    );
     let rank = phrase[i] as usize;
     let stop = words::frequency(s, shape, lengths, bytes, superblocks, blocks, starts, rank);
     let mut count: usize = 0;
-    let mut j = below(s, shape, lengths, bytes, superblocks, blocks, starts, rank, i);
+    let mut j = below(
+        s,
+        shape,
+        lengths,
+        bytes,
+        superblocks,
+        blocks,
+        starts,
+        rank,
+        i,
+    );
     while j < stop {
-        let place = words::place_of(s, shape, lengths, bytes, superblocks, blocks, starts, rank, j);
-        if stands_at(s, shape, lengths, bytes, superblocks, blocks, starts, phrase, place.0 - i) {
+        let place = words::place_of(
+            s,
+            shape,
+            lengths,
+            bytes,
+            superblocks,
+            blocks,
+            starts,
+            rank,
+            j,
+        );
+        if stands_at(
+            s,
+            shape,
+            lengths,
+            bytes,
+            superblocks,
+            blocks,
+            starts,
+            phrase,
+            place.0 - i,
+        ) {
             count += 1;
         }
         j += 1;
@@ -174,15 +259,55 @@ pub fn write_page(
     ensures { λ r. ⌜ (r ≡ writtenOf (pageOver (stands (textIn s (arrays (now (lengths .entry)) (now (bytes .entry)) (now (superblocks .entry)) (now (blocks .entry)))) (now (phrase .entry))) (length (textIn s (arrays (now (lengths .entry)) (now (bytes .entry)) (now (superblocks .entry)) (now (blocks .entry))))) (length (now (lines .entry))) next false))
         × (now (lines .exit) ≡ front (pageOver (stands (textIn s (arrays (now (lengths .entry)) (now (bytes .entry)) (now (superblocks .entry)) (now (blocks .entry)))) (now (phrase .entry))) (length (textIn s (arrays (now (lengths .entry)) (now (bytes .entry)) (now (superblocks .entry)) (now (blocks .entry))))) (length (now (lines .entry))) next false .found) (now (lines .entry))) ⌝ }
 {
-    let i = rarest(s, shape, lengths, bytes, superblocks, blocks, starts, phrase);
+    let i = rarest(
+        s,
+        shape,
+        lengths,
+        bytes,
+        superblocks,
+        blocks,
+        starts,
+        phrase,
+    );
     let rank = phrase[i] as usize;
     let stop = words::frequency(s, shape, lengths, bytes, superblocks, blocks, starts, rank);
     let mut count: usize = 0;
     let mut last: usize = 0;
-    let mut j = below(s, shape, lengths, bytes, superblocks, blocks, starts, rank, next + i);
+    let mut j = below(
+        s,
+        shape,
+        lengths,
+        bytes,
+        superblocks,
+        blocks,
+        starts,
+        rank,
+        next + i,
+    );
     while j < stop {
-        let place = words::place_of(s, shape, lengths, bytes, superblocks, blocks, starts, rank, j).0 - i;
-        if stands_at(s, shape, lengths, bytes, superblocks, blocks, starts, phrase, place) {
+        let place = words::place_of(
+            s,
+            shape,
+            lengths,
+            bytes,
+            superblocks,
+            blocks,
+            starts,
+            rank,
+            j,
+        ).0
+            - i;
+        if stands_at(
+            s,
+            shape,
+            lengths,
+            bytes,
+            superblocks,
+            blocks,
+            starts,
+            phrase,
+            place,
+        ) {
             if count == lines.len() {
                 return Written {
                     count,
@@ -224,7 +349,17 @@ fn neighbour_at(
     let n = words::text_length(lengths);
     let found = phrases::shifted(place, offset, n);
     match found {
-        Found::At(at) => agrees_at(s, shape, lengths, bytes, superblocks, blocks, starts, at, rank),
+        Found::At(at) => agrees_at(
+            s,
+            shape,
+            lengths,
+            bytes,
+            superblocks,
+            blocks,
+            starts,
+            at,
+            rank,
+        ),
         Found::Outside => false,
     }
 }
@@ -250,7 +385,18 @@ fn neighbours_along(
     let mut j: usize = 0;
     while j < stop {
         let place = words::place_of(s, shape, lengths, bytes, superblocks, blocks, starts, w, j);
-        if neighbour_at(s, shape, lengths, bytes, superblocks, blocks, starts, v, place.0, offset) {
+        if neighbour_at(
+            s,
+            shape,
+            lengths,
+            bytes,
+            superblocks,
+            blocks,
+            starts,
+            v,
+            place.0,
+            offset,
+        ) {
             count += 1;
         }
         j += 1;
@@ -278,9 +424,31 @@ pub fn neighbours(
     let first = words::frequency(s, shape, lengths, bytes, superblocks, blocks, starts, w);
     let second = words::frequency(s, shape, lengths, bytes, superblocks, blocks, starts, v);
     if first <= second {
-        return neighbours_along(s, shape, lengths, bytes, superblocks, blocks, starts, w, v, offset);
+        return neighbours_along(
+            s,
+            shape,
+            lengths,
+            bytes,
+            superblocks,
+            blocks,
+            starts,
+            w,
+            v,
+            offset,
+        );
     }
-    neighbours_along(s, shape, lengths, bytes, superblocks, blocks, starts, v, w, phrases::negated(offset))
+    neighbours_along(
+        s,
+        shape,
+        lengths,
+        bytes,
+        superblocks,
+        blocks,
+        starts,
+        v,
+        w,
+        phrases::negated(offset),
+    )
 }
 
 // Fills a slice with the ranks from a place on.
@@ -300,7 +468,16 @@ pub fn read_passage(
 {
     let mut i: usize = 0;
     while i < ranks.len() {
-        ranks[i] = words::word_at(s, shape, lengths, bytes, superblocks, blocks, starts, Place(place + i));
+        ranks[i] = words::word_at(
+            s,
+            shape,
+            lengths,
+            bytes,
+            superblocks,
+            blocks,
+            starts,
+            Place(place + i),
+        );
         i += 1;
     }
 }

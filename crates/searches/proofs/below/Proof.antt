@@ -19,12 +19,12 @@ least-requires : tie.Need-least-requires
 least-requires c κs = search needs
 
 occurrences-below-requires : tie.Need-occurrences-below-requires
-occurrences-below-requires c κs = 
+occurrences-below-requires c κs =
     let st = c .before .before .before .before .before .before .before in
     (st .pre .0, st .pre .1, omega (arith, c .least .ensures, c .before .text-length .ensures .1 _ _ _ _ _ (st .pre .0 .checked)))
 
 returns : tie.Need-returns
-returns c = 
+returns c =
     let st = c .before .before .before .before .before .before .before .before in
     let t = textIn (st .args .s) (arrays (st .args .lengths .now) (st .args .bytes .now) (st .args .superblocks .now) (st .args .blocks .now)) in
     let n : c .before .before .text-length .result ≡ length t = c .before .before .text-length .ensures .1 _ _ _ _ _ (st .pre .0 .checked) in

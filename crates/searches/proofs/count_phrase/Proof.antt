@@ -37,17 +37,17 @@ cast-rank : tie.Need-cast-rank Inv-loop μ-loop
 cast-rank c = omega (arith, c .shared-slice-known7 .given (c .before .rarest .result))
 
 frequency-requires : tie.Need-frequency-requires Inv-loop μ-loop
-frequency-requires c κs = 
+frequency-requires c κs =
     let st = c .before .before .before .before .before .before .before .before in
     (st .pre .ready, all-at (λ (x : ℕ). x < st .args .shape .vocabulary) (st .args .phrase .now) 0 (c .before .rarest .result) (st .pre .below) (c .before .rarest .ensures .inside))
 
 below-requires : tie.Need-below-requires Inv-loop μ-loop
-below-requires c κs = 
+below-requires c κs =
     let st = c .before .before .before .before .before .before .before .before .before in
     (st .pre .ready, all-at (λ (x : ℕ). x < st .args .shape .vocabulary) (st .args .phrase .now) 0 (c .before .before .rarest .result) (st .pre .below) (c .before .before .rarest .ensures .inside))
 
 loop-holds : tie.Need-loop-holds Inv-loop μ-loop
-loop-holds c = 
+loop-holds c =
     let st = c .before .before .before .before .before .before .before .before .before .before in
     let t = textIn (st .args .s) (arrays (st .args .lengths .now) (st .args .bytes .now) (st .args .superblocks .now) (st .args .blocks .now)) in
     let i = c .before .before .before .rarest .result in
@@ -60,12 +60,12 @@ loop-holds c =
     )
 
 place-of-requires : tie.Need-place-of-requires Inv-loop μ-loop
-place-of-requires c κs = 
+place-of-requires c κs =
     let st = c .before .before .before .before .before .before .before .before .before .before .before .before in
     (st .pre .ready, all-at (λ (x : ℕ). x < st .args .shape .vocabulary) (st .args .phrase .now) 0 (c .before .before .before .before .before .rarest .result) (st .pre .below) (c .before .before .before .before .before .rarest .ensures .inside), omega (arith, c .before .before .before .frequency .ensures))
 
 sub-stands-at : tie.Need-sub-stands-at Inv-loop μ-loop
-sub-stands-at c = 
+sub-stands-at c =
     let st = c .before .before .before .before .before .before .before .before .before .before .before .before .before .before in
     let t = textIn (st .args .s) (arrays (st .args .lengths .now) (st .args .bytes .now) (st .args .superblocks .now) (st .args .blocks .now)) in
     let i = c .before .before .before .before .before .before .before .rarest .result in
@@ -74,7 +74,7 @@ sub-stands-at c =
     omega (arith, c .before .place-of .ensures, candidate-there t w i (l .j) (l .inv .0) (omega (arith, c .before .before .before .before .before .frequency .ensures)))
 
 stands-at-requires : tie.Need-stands-at-requires Inv-loop μ-loop
-stands-at-requires c κs = 
+stands-at-requires c κs =
     let st = c .before .before .before .before .before .before .before .before .before .before .before .before .before .before in
     let t = textIn (st .args .s) (arrays (st .args .lengths .now) (st .args .bytes .now) (st .args .superblocks .now) (st .args .blocks .now)) in
     let i = c .before .before .before .before .before .before .before .rarest .result in
@@ -83,7 +83,7 @@ stands-at-requires c κs =
     (st .pre, omega (arith, c .before .place-of .ensures, candidate-inside t w i (l .j) (omega (arith, c .before .before .before .before .before .frequency .ensures))))
 
 add-count : tie.Need-add-count Inv-loop μ-loop
-add-count c = 
+add-count c =
     let st = c .before .before .before .before .before .before .before .before .before .before .before .before .before .before .before .before in
     let t = textIn (st .args .s) (arrays (st .args .lengths .now) (st .args .bytes .now) (st .args .superblocks .now) (st .args .blocks .now)) in
     let i = c .before .before .before .before .before .before .before .before .before .rarest .result in
@@ -99,7 +99,7 @@ loop-less : tie.Need-loop-less Inv-loop μ-loop
 loop-less c = search needs
 
 loop-again : tie.Need-loop-again Inv-loop μ-loop
-loop-again c = 
+loop-again c =
     let st = c .before .before .before .before .before .before .before .before .before .before .before .before .before .before .before .before in
     let t = textIn (st .args .s) (arrays (st .args .lengths .now) (st .args .bytes .now) (st .args .superblocks .now) (st .args .blocks .now)) in
     let i = c .before .before .before .before .before .before .before .before .before .rarest .result in
@@ -118,7 +118,7 @@ loop-again c =
     )
 
 returns : tie.Need-returns Inv-loop μ-loop
-returns c = 
+returns c =
     let st = c .before .before .before .before .before .before .before .before .before .before .before .before in
     let t = textIn (st .args .s) (arrays (st .args .lengths .now) (st .args .bytes .now) (st .args .superblocks .now) (st .args .blocks .now)) in
     let i = c .before .before .before .before .before .rarest .result in

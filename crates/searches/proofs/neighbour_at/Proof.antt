@@ -18,7 +18,7 @@ text-length-requires : tie.Need-text-length-requires
 text-length-requires c κs = ready-some (c .before .before .before .before .before .pre .0)
 
 shifted-requires : tie.Need-shifted-requires
-shifted-requires c κs = 
+shifted-requires c κs =
     let st = c .before .before .before .before .before .before in
     let n = c .text-length .ensures .1 _ _ _ _ _ (st .pre .0 .checked) in
     (omega (arith, n, ready-most (st .pre .0)), omega (arith, n, st .pre .1))
@@ -27,7 +27,7 @@ enum-known-found : tie.Need-enum-known-found
 enum-known-found c = search needs
 
 agrees-at-requires : tie.Need-agrees-at-requires
-agrees-at-requires c κs = 
+agrees-at-requires c κs =
     let st = c .before .before .before .before .before .before .before .before .before .before in
     let t = textIn (st .args .s) (arrays (st .args .lengths .now) (st .args .bytes .now) (st .args .superblocks .now) (st .args .blocks .now)) in
     let n = c .before .before .before .before .text-length .ensures .1 _ _ _ _ _ (st .pre .0 .checked) in
@@ -38,7 +38,7 @@ enum-told : tie.Need-enum-told
 enum-told c = search needs
 
 returns : tie.Need-returns
-returns c = 
+returns c =
     let st = c .before .before .before .before .before .before .before .before .before .before .before in
     let t = textIn (st .args .s) (arrays (st .args .lengths .now) (st .args .bytes .now) (st .args .superblocks .now) (st .args .blocks .now)) in
     let n = c .before .before .before .before .before .text-length .ensures .1 _ _ _ _ _ (st .pre .0 .checked) in
@@ -47,7 +47,7 @@ returns c =
     c .agrees-at .ensures ∙ sym (stands-moved t (st .args .rank) (st .args .offset) (st .args .place) (c .before .before .found .given .0 .0) e)
 
 returns-2 : tie.Need-returns-2
-returns-2 c = 
+returns-2 c =
     let st = c .before .before .before .before .before .before .before .before .before in
     let t = textIn (st .args .s) (arrays (st .args .lengths .now) (st .args .bytes .now) (st .args .superblocks .now) (st .args .blocks .now)) in
     let n = c .before .before .before .text-length .ensures .1 _ _ _ _ _ (st .pre .0 .checked) in

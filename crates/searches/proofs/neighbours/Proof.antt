@@ -22,7 +22,7 @@ neighbours-along-requires : tie.Need-neighbours-along-requires
 neighbours-along-requires c κs = search needs
 
 returns : tie.Need-returns
-returns c = 
+returns c =
     let st = c .before .before .before .before .before .before .before .before .before in
     let t = textIn (st .args .s) (arrays (st .args .lengths .now) (st .args .bytes .now) (st .args .superblocks .now) (st .args .blocks .now)) in
     c .neighbours-along .ensures ∙ ap (neighbours t (st .args .w) (st .args .v)) (toZ-ofZ (st .fits .offset))
@@ -34,7 +34,7 @@ neighbours-along-requires-2 : tie.Need-neighbours-along-requires-2
 neighbours-along-requires-2 c κs = search needs
 
 returns-2 : tie.Need-returns-2
-returns-2 c = 
+returns-2 c =
     let st = c .before .before .before .before .before .before .before .before .before .before in
     let t = textIn (st .args .s) (arrays (st .args .lengths .now) (st .args .bytes .now) (st .args .superblocks .now) (st .args .blocks .now)) in
     let e : c .before .negated .result ≡ negℤ (st .args .offset) = c .before .negated .ensures ∙ ap negℤ (toZ-ofZ (st .fits .offset)) in

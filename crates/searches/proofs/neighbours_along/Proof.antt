@@ -35,13 +35,13 @@ place-of-requires : tie.Need-place-of-requires Inv-loop μ-loop
 place-of-requires c κs = (c .before .before .before .before .before .before .before .before .pre .0, c .before .before .before .before .before .before .before .before .pre .1, omega (arith, c .before .before .frequency .ensures))
 
 neighbour-at-requires : tie.Need-neighbour-at-requires Inv-loop μ-loop
-neighbour-at-requires c κs = 
+neighbour-at-requires c κs =
     let st = c .before .before .before .before .before .before .before .before .before in
     let t = textIn (st .args .s) (arrays (st .args .lengths .now) (st .args .bytes .now) (st .args .superblocks .now) (st .args .blocks .now)) in
     (st .pre .0, omega (arith, c .place-of .ensures, nth-found (st .args .w) (c .before .before .loop .j) t (omega (arith, c .before .before .before .frequency .ensures)) .inside))
 
 add-count : tie.Need-add-count Inv-loop μ-loop
-add-count c = 
+add-count c =
     let st = c .before .before .before .before .before .before .before .before .before .before .before in
     let t = textIn (st .args .s) (arrays (st .args .lengths .now) (st .args .bytes .now) (st .args .superblocks .now) (st .args .blocks .now)) in
     omega (arith, c .before .before .before .before .loop .inv .1, count-most (neighbourAt t (st .args .w) (st .args .v) (toZ w32 (ofZ w32 (st .args .offset)))) (λ (k : ℕ). nth (st .args .w) k t) 0 (c .before .before .before .before .loop .j - 0))
@@ -53,7 +53,7 @@ loop-less : tie.Need-loop-less Inv-loop μ-loop
 loop-less c = search needs
 
 loop-again : tie.Need-loop-again Inv-loop μ-loop
-loop-again c = 
+loop-again c =
     let st = c .before .before .before .before .before .before .before .before .before .before .before in
     let t = textIn (st .args .s) (arrays (st .args .lengths .now) (st .args .bytes .now) (st .args .superblocks .now) (st .args .blocks .now)) in
     let l = c .before .before .before .before .loop in
@@ -73,7 +73,7 @@ loop-again c =
     )
 
 returns : tie.Need-returns Inv-loop μ-loop
-returns c = 
+returns c =
     let st = c .before .before .before .before .before .before .before .before in
     let t = textIn (st .args .s) (arrays (st .args .lengths .now) (st .args .bytes .now) (st .args .superblocks .now) (st .args .blocks .now)) in
     let l = c .before .loop in

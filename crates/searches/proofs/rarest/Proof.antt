@@ -25,14 +25,14 @@ cast-frequency : tie.Need-cast-frequency Inv-loop μ-loop
 cast-frequency c = omega (arith, c .shared-slice-known7 .given 0)
 
 frequency-requires : tie.Need-frequency-requires Inv-loop μ-loop
-frequency-requires c κs = 
+frequency-requires c κs =
     let st = c .before .before .before .before .before .before .before in
     (st .pre .ready, all-at (λ (x : ℕ). x < st .args .shape .vocabulary) (st .args .phrase .now) 0 0 (st .pre .below) (st .pre .some))
 
 loop-holds : tie.Need-loop-holds Inv-loop μ-loop
-loop-holds c = 
+loop-holds c =
     let st = c .before .before .before .before .before .before .before .before in
-    let t = textIn (st .args .s) (arrays (st .args .lengths .now) (st .args .bytes .now) (st .args .superblocks .now) (st .args .blocks .now)) in(
+    let t = textIn (st .args .s) (arrays (st .args .lengths .now) (st .args .bytes .now) (st .args .superblocks .now) (st .args .blocks .now)) in (
       st .pre .some,
       omega arith,
       c .frequency .ensures,
@@ -49,7 +49,7 @@ cast-frequency-2 : tie.Need-cast-frequency-2 Inv-loop μ-loop
 cast-frequency-2 c = omega (arith, c .shared-slice-known8 .given (c .before .before .loop .i))
 
 frequency-requires-2 : tie.Need-frequency-requires-2 Inv-loop μ-loop
-frequency-requires-2 c κs = 
+frequency-requires-2 c κs =
     let st = c .before .before .before .before .before .before .before .before .before .before .before in
     (st .pre .ready, all-at (λ (x : ℕ). x < st .args .shape .vocabulary) (st .args .phrase .now) 0 (c .before .before .loop .i) (st .pre .below) (omega arith))
 
@@ -60,7 +60,7 @@ loop-less : tie.Need-loop-less Inv-loop μ-loop
 loop-less c = search needs
 
 loop-again : tie.Need-loop-again Inv-loop μ-loop
-loop-again c = 
+loop-again c =
     let st = c .before .before .before .before .before .before .before .before .before .before .before .before .before in
     let t = textIn (st .args .s) (arrays (st .args .lengths .now) (st .args .bytes .now) (st .args .superblocks .now) (st .args .blocks .now)) in
     let l = c .before .before .before .before .loop in
@@ -77,7 +77,7 @@ loop-again c =
     )
 
 returns : tie.Need-returns Inv-loop μ-loop
-returns c = 
+returns c =
     let st = c .before .before .before .before .before .before .before .before .before .before in
     let t = textIn (st .args .s) (arrays (st .args .lengths .now) (st .args .bytes .now) (st .args .superblocks .now) (st .args .blocks .now)) in
     let l = c .before .loop in

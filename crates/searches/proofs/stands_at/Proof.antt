@@ -27,7 +27,7 @@ add-if1 : tie.Need-add-if1 Inv-loop μ-loop
 add-if1 c = omega (arith, c .before .before .before .before .before .before .before .pre .0 .most, c .before .before .before .before .before .before .before .pre .1, ready-most (c .before .before .before .before .before .before .before .pre .0 .ready))
 
 returns : tie.Need-returns Inv-loop μ-loop
-returns c = 
+returns c =
     let st = c .before .before .before .before .before .before .before .before in
     let t = textIn (st .args .s) (arrays (st .args .lengths .now) (st .args .bytes .now) (st .args .superblocks .now) (st .args .blocks .now)) in
     sym (stands-past t (st .args .phrase .now) (st .args .place) (omega (arith, c .before .text-length .ensures .1 _ _ _ _ _ (st .pre .0 .ready .checked))))
@@ -48,13 +48,13 @@ add-agrees-at : tie.Need-add-agrees-at Inv-loop μ-loop
 add-agrees-at c = search needs
 
 agrees-at-requires : tie.Need-agrees-at-requires Inv-loop μ-loop
-agrees-at-requires c κs = 
+agrees-at-requires c κs =
     let st = c .before .before .before .before .before .before .before .before .before .before .before in
     let t = textIn (st .args .s) (arrays (st .args .lengths .now) (st .args .bytes .now) (st .args .superblocks .now) (st .args .blocks .now)) in
     (st .pre .0 .ready, omega (arith, c .before .before .before .before .text-length .ensures .1 _ _ _ _ _ (st .pre .0 .ready .checked)))
 
 returns-2 : tie.Need-returns-2 Inv-loop μ-loop
-returns-2 c = 
+returns-2 c =
     let st = c .before .before .before .before .before .before .before .before .before .before .before .before .before in
     let t = textIn (st .args .s) (arrays (st .args .lengths .now) (st .args .bytes .now) (st .args .superblocks .now) (st .args .blocks .now)) in
     let l = c .before .before .before .before .loop in
@@ -67,14 +67,14 @@ loop-less : tie.Need-loop-less Inv-loop μ-loop
 loop-less c = search needs
 
 loop-again : tie.Need-loop-again Inv-loop μ-loop
-loop-again c = 
+loop-again c =
     let st = c .before .before .before .before .before .before .before .before .before .before .before .before .before in
     let t = textIn (st .args .s) (arrays (st .args .lengths .now) (st .args .bytes .now) (st .args .superblocks .now) (st .args .blocks .now)) in
     let l = c .before .before .before .before .loop in
     (omega arith, λ k h. ⊎-elim (λ g. l .inv .1 k g) (λ g. let e : k ≡ l .i = omega arith in rw e (eqb-true _ _ (sym (c .before .agrees-at .ensures) ∙ not-left (c .before .agrees-at .result) (c .if2 .left)))) (below-or-not k (l .i)))
 
 returns-3 : tie.Need-returns-3 Inv-loop μ-loop
-returns-3 c = 
+returns-3 c =
     let st = c .before .before .before .before .before .before .before .before .before .before in
     let t = textIn (st .args .s) (arrays (st .args .lengths .now) (st .args .bytes .now) (st .args .superblocks .now) (st .args .blocks .now)) in
     let l = c .before .loop in

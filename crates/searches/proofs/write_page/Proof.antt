@@ -2,7 +2,6 @@
 -- Assumes nothing.
 use Rattle.base.proofs.Counts.{count-take-whole, count-most as often-most}
 use Rattle.pages.proofs.Counting.{count-most}
-
 -- Assumes nothing.
 -- Assumes nothing.
 -- Assumes nothing.
@@ -66,7 +65,7 @@ cast-rank : tie.Need-cast-rank Inv-loop μ-loop
 cast-rank c = omega (arith, c .shared-slice-known7 .given (c .before .rarest .result))
 
 frequency-requires : tie.Need-frequency-requires Inv-loop μ-loop
-frequency-requires c κs = 
+frequency-requires c κs =
     let st = c .before .before .before .before .before .before .before .before .before in
     (st .pre .0 .ready, all-at (λ (x : ℕ). x < st .args .shape .vocabulary) (st .args .phrase .now) 0 (c .before .rarest .result) (st .pre .0 .below) (c .before .rarest .ensures .inside))
 
@@ -74,12 +73,12 @@ add-below : tie.Need-add-below Inv-loop μ-loop
 add-below c = omega (arith, c .before .before .before .before .before .before .before .before .before .before .pre .1, c .before .before .before .before .before .before .before .before .before .before .pre .0 .most, c .before .before .rarest .ensures .inside, ready-most (c .before .before .before .before .before .before .before .before .before .before .pre .0 .ready))
 
 below-requires : tie.Need-below-requires Inv-loop μ-loop
-below-requires c κs = 
+below-requires c κs =
     let st = c .before .before .before .before .before .before .before .before .before .before in
     (st .pre .0 .ready, all-at (λ (x : ℕ). x < st .args .shape .vocabulary) (st .args .phrase .now) 0 (c .before .before .rarest .result) (st .pre .0 .below) (c .before .before .rarest .ensures .inside))
 
 loop-holds : tie.Need-loop-holds Inv-loop μ-loop
-loop-holds c = 
+loop-holds c =
     let st = c .before .before .before .before .before .before .before .before .before .before .before in
     let t = textIn (st .args .s) (arrays (st .args .lengths .now) (st .args .bytes .now) (st .args .superblocks .now) (st .args .blocks .now)) in
     let ws = st .args .phrase .now in
@@ -95,12 +94,12 @@ loop-holds c =
     )
 
 place-of-requires : tie.Need-place-of-requires Inv-loop μ-loop
-place-of-requires c κs = 
+place-of-requires c κs =
     let st = c .before .before .before .before .before .before .before .before .before .before .before .before .before in
     (st .pre .0 .ready, all-at (λ (x : ℕ). x < st .args .shape .vocabulary) (st .args .phrase .now) 0 (c .before .before .before .before .before .rarest .result) (st .pre .0 .below) (c .before .before .before .before .before .rarest .ensures .inside), omega (arith, c .before .before .before .frequency .ensures))
 
 sub-place : tie.Need-sub-place Inv-loop μ-loop
-sub-place c = 
+sub-place c =
     let st = c .before .before .before .before .before .before .before .before .before .before .before .before .before .before .before in
     let t = textIn (st .args .s) (arrays (st .args .lengths .now) (st .args .bytes .now) (st .args .superblocks .now) (st .args .blocks .now)) in
     let ws = st .args .phrase .now in
@@ -112,7 +111,7 @@ sub-place c =
     omega (arith, c .before .place-of .ensures, candidate-later t w i (l .j) (st .args .next) (l .inv .0) (omega (arith, c .before .before .before .before .before .frequency .ensures)))
 
 stands-at-requires : tie.Need-stands-at-requires Inv-loop μ-loop
-stands-at-requires c κs = 
+stands-at-requires c κs =
     let st = c .before .before .before .before .before .before .before .before .before .before .before .before .before .before .before in
     let t = textIn (st .args .s) (arrays (st .args .lengths .now) (st .args .bytes .now) (st .args .superblocks .now) (st .args .blocks .now)) in
     let ws = st .args .phrase .now in
@@ -130,7 +129,7 @@ same-length : tie.Need-same-length Inv-loop μ-loop
 same-length c = filled-length _ _ _ _ _ (c .before .before .before .before .before .before .loop .inv .3)
 
 returns : tie.Need-returns Inv-loop μ-loop
-returns c = 
+returns c =
     let st = c .before .before .before .before .before .before .before .before .before .before .before .before .before .before .before .before .before .before in
     let t = textIn (st .args .s) (arrays (st .args .lengths .now) (st .args .bytes .now) (st .args .superblocks .now) (st .args .blocks .now)) in
     let ws = st .args .phrase .now in
@@ -147,7 +146,7 @@ returns c =
     (omega (arith, c .before .before .before .before .before .before .before .before .frequency .ensures)) here (c .if2 .taken))
 
 cast-lines : tie.Need-cast-lines Inv-loop μ-loop
-cast-lines c = 
+cast-lines c =
     let st = c .before .before .before .before .before .before .before .before .before .before .before .before .before .before .before .before .before .before in
     let t = textIn (st .args .s) (arrays (st .args .lengths .now) (st .args .bytes .now) (st .args .superblocks .now) (st .args .blocks .now)) in
     let ws = st .args .phrase .now in
@@ -159,7 +158,7 @@ cast-lines c =
     omega (arith, c .before .before .before .before .place-of .ensures, ready-most (st .pre .0 .ready), candidate-inside t w i (l .j) (omega (arith, c .before .before .before .before .before .before .before .before .frequency .ensures)))
 
 mul-lines : tie.Need-mul-lines Inv-loop μ-loop
-mul-lines c = 
+mul-lines c =
     let st = c .before .before .before .before .before .before .before .before .before .before .before .before .before .before .before .before .before .before in
     let t = textIn (st .args .s) (arrays (st .args .lengths .now) (st .args .bytes .now) (st .args .superblocks .now) (st .args .blocks .now)) in
     let ws = st .args .phrase .now in
@@ -171,12 +170,12 @@ mul-lines c =
     omega (arith, l .inv .3 .valueIs, count-most P (candidate t w i) first (l .j - first), often-most w t, c .before .before .before .before .before .before .before .before .frequency .ensures, ready-most (st .pre .0 .ready))
 
 slice-write-lines : tie.Need-slice-write-lines Inv-loop μ-loop
-slice-write-lines c = 
+slice-write-lines c =
     let l = c .before .before .before .before .before .before .loop in
     omega (arith, filled-length _ _ _ _ _ (l .inv .3), l .inv .3 .fits, c .if2 .left)
 
 add-count : tie.Need-add-count Inv-loop μ-loop
-add-count c = 
+add-count c =
     let st = c .before .before .before .before .before .before .before .before .before .before .before .before .before .before .before .before .before .before in
     let t = textIn (st .args .s) (arrays (st .args .lengths .now) (st .args .bytes .now) (st .args .superblocks .now) (st .args .blocks .now)) in
     let ws = st .args .phrase .now in
@@ -194,7 +193,7 @@ loop-less : tie.Need-loop-less Inv-loop μ-loop
 loop-less c = search needs
 
 loop-again : tie.Need-loop-again Inv-loop μ-loop
-loop-again c = 
+loop-again c =
     let st = c .before .before .before .before .before .before .before .before .before .before .before .before .before .before .before .before .before in
     let t = textIn (st .args .s) (arrays (st .args .lengths .now) (st .args .bytes .now) (st .args .superblocks .now) (st .args .blocks .now)) in
     let ws = st .args .phrase .now in
@@ -227,7 +226,7 @@ same-length-2 : tie.Need-same-length-2 Inv-loop μ-loop
 same-length-2 c = filled-length _ _ _ _ _ (c .before .before .loop .inv .3)
 
 returns-2 : tie.Need-returns-2 Inv-loop μ-loop
-returns-2 c = 
+returns-2 c =
     let st = c .before .before .before .before .before .before .before .before .before .before .before .before .before .before in
     let t = textIn (st .args .s) (arrays (st .args .lengths .now) (st .args .bytes .now) (st .args .superblocks .now) (st .args .blocks .now)) in
     let ws = st .args .phrase .now in
