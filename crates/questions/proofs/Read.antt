@@ -8,7 +8,7 @@ use lib.Dec.{ltb, leb}
 use lib.ListN.{length, take, drop, getD, length-take, length-drop}
 use lib.Seq.{take-all, drop-length}
 use Rattle.base.specs.Refusals.{refusalPlace}
-use Rattle.base.specs.Answers.{accepted, refused, isAccepted, Case, _⇒_, NoneHolds}
+use Rattle.base.specs.Answers.{accepted, refused, isAccepted, _⇒_, NoneHolds}
 use Rattle.base.proofs.Answers.{answers, none-holds, none-append, filled-front}
 use Rattle.dense.specs.Code.{vocabularyCase}
 use Rattle.directory.specs.Counters.{blocksCase}
@@ -16,7 +16,6 @@ use Rattle.index.specs.declared.Shape.{Shape}
 use Rattle.index.specs.Arrays.{Arrays, textIn}
 use Rattle.index.specs.Entries.{indexCases, checkAnswer}
 use Rattle.index.proofs.Exact.{index-exact}
-use Rattle.words.specs.Words.{rankAt}
 use Rattle.questions.specs.declared.Question.{Question}
 use Rattle.questions.specs.Makers.{asksWordAt}
 use Rattle.questions.specs.Answering.{askAnswer, questionAnswer, wordAtAnswer}
@@ -50,7 +49,7 @@ module _ (s : ℕ) (shape : Shape) (a : Arrays) (e : checkAnswer s shape a ≡ a
       ∙ ap (λ (r : List ℕ). xs ++ r) (ap (λ (m : ℕ). drop m z) n ∙ drop-length z) ∙ append-nil xs
 
 pub index-read-by-calls : IndexReadByCalls
-unfolding questionAnswer wordAtAnswer rankAt
+unfolding questionAnswer wordAtAnswer
 index-read-by-calls s shape t a within limits h =
     let e : checkAnswer s shape a ≡ accepted 0 = index-exact s shape within .passed a .1 (limits, (t, h)) in
     let back : textIn s a ≡ t = index-exact s shape within .readBack t a limits h in

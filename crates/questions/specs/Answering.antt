@@ -32,6 +32,10 @@ phraseCases vocab words start len =
     ∷ rankAskedCase vocab (phraseIn words start len)
     ∷ []
 
+-- the refusal number of a phrase, 0 where it has none
+unfoldable pub phraseRefusal : ℕ → List ℕ → ℕ → ℕ → ℕ
+phraseRefusal vocab words start len = firstOf (phraseCases vocab words start len) (accepted 0) .refusal
+
 -- kind 1: the rank at place p, p < n
 unfoldable pub wordAtAnswer : List ℕ → ℕ → Answer
 wordAtAnswer t p = firstOf ((leb (length t) p ⇒ refused refusalPlace) ∷ []) (accepted (rankAt t p))

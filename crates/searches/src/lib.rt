@@ -437,6 +437,7 @@ pub fn neighbours(
             offset,
         );
     }
+    let back = phrases::negated(offset);
     neighbours_along(
         s,
         shape,
@@ -447,7 +448,7 @@ pub fn neighbours(
         starts,
         v,
         w,
-        phrases::negated(offset),
+        back,
     )
 }
 
