@@ -18,7 +18,7 @@ use Rattle.questions.specs.Answering.{rankAskedCase, phraseIn, phraseCases, occ
 use Rattle.samples.specs.Group.{sampleIndex, SampleGroup}
 
 pub sample-group : SampleGroup
-unfolding flatten firstOf outside ranksBelow isText vocabularyCase code stream codewords streamText row superblockRow blockRow superblockRows blockRows blocksCase path reach nodeBytes nodes textOf bytesOf lengthsOf indexOf textIn sameArrays passes indexCases occurrencesBelow frequency nthPlace agrees stands places standsAt neighbourAt neighbours rankAskedCase phraseIn phraseCases occurrencesAnswer placeAnswer neighboursAnswer phraseAnswer questionAnswer askAnswer sampleIndex
+unfolding flatten firstOf outside ranksBelow isText vocabularyCase code stream codewords streamText row superblockRow blockRow superblockRows blockRows blocksCase path reach nodeBytes nodes textOf bytesOf lengthsOf indexOf textIn sameArrays passes indexCases agrees stands places standsAt neighbourAt neighbours rankAskedCase phraseIn phraseCases occurrencesAnswer placeAnswer neighboursAnswer phraseAnswer questionAnswer askAnswer sampleIndex
 sample-group =
     record {
       codes = published-codes;

@@ -1,4 +1,4 @@
--- `questions::answer` meets its contract: each kind by its own function. Assumes nothing.
+-- `questions::answering::answer` meets its contract: each kind by its own function. Assumes nothing.
 use mir.Syntax.{w32}
 use mir.Facts.{toZ-ofZ}
 use mathlib.Core.Path.{sym, ap, _∙_}

@@ -1,4 +1,4 @@
--- `questions::answer_neighbours` meets its contract: both ranks are tested, then the offset on both sides. Assumes nothing.
+-- `questions::answering::answer_neighbours` meets its contract: both ranks are tested, then the offset on both sides. Assumes nothing.
 use mir.Facts.{toZ-ofZ}
 use mathlib.Core.Path.{sym, ap, _∙_}
 use borrow.Author.Needs.{needs}

@@ -1,4 +1,4 @@
--- `questions::answer_occurrences` meets its contract: the rank is tested, then the place. Assumes nothing.
+-- `questions::answering::answer_occurrences` meets its contract: the rank is tested, then the place. Assumes nothing.
 use mathlib.Core.Path.{_≡_, sym, ap, _∙_}
 use native.Mathlib.Omega.{arith}
 use borrow.Author.Needs.{needs}

@@ -1,4 +1,4 @@
--- `questions::answer_phrase` meets its contract: a phrase that is not refused can be searched for. Assumes nothing.
+-- `questions::answering::answer_phrase` meets its contract: a phrase that is not refused can be searched for. Assumes nothing.
 use Prim.Native.Nat.{ℕ, _+_, _-_}
 use mathlib.Core.Path.{_≡_, sym, ap, _∙_}
 use native.Mathlib.Omega.{arith}

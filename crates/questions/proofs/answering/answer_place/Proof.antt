@@ -1,4 +1,4 @@
--- `questions::answer_place` meets its contract: the rank is tested, then the number against its frequency. Assumes nothing.
+-- `questions::answering::answer_place` meets its contract: the rank is tested, then the number against its frequency. Assumes nothing.
 use mathlib.Core.Path.{sym, ap, _∙_}
 use native.Mathlib.Omega.{arith}
 use borrow.Author.Needs.{needs}

@@ -1,4 +1,4 @@
--- `questions::answer_word_at` meets its contract: the place is tested against the length of the text. Assumes nothing.
+-- `questions::answering::answer_word_at` meets its contract: the place is tested against the length of the text. Assumes nothing.
 use mathlib.Core.Path.{_≡_, sym, ap, _∙_}
 use native.Mathlib.Omega.{arith}
 use borrow.Author.Needs.{needs}

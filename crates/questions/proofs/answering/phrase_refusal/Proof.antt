@@ -1,4 +1,4 @@
--- `questions::phrase_refusal` meets its contract: the length is tested, then the part, then each of its words. Assumes nothing.
+-- `questions::answering::phrase_refusal` meets its contract: the length is tested, then the part, then each of its words. Assumes nothing.
 use Prim.Native.Nat.{_+_, _-_, _≤_}
 use mathlib.Core.Path.{_≡_, sym}
 use native.Mathlib.Omega.{arith}
