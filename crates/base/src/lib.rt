@@ -20,12 +20,6 @@ pub const MAX_BYTES: usize = 50331648;
 // The most bytes of a superblock.
 pub const MAX_SUPERBLOCK: usize = 65535;
 
-// The most words of a phrase.
-pub const MAX_PHRASE: usize = 16;
-
-// The largest offset of a neighbour, to the right and to the left.
-pub const MAX_OFFSET: i32 = 16;
-
 // The answer of a call: 0 and its value, or a refusal's number and what is returned with it.
 #[repr(C)]
 pub struct Answer {

@@ -24,7 +24,8 @@ use Rattle.tree.specs.Walks.{endNode}
 use Rattle.tree.proofs.Numbers.{end-below, code-ends, levels-most}
 use Rattle.tree.proofs.Nodes.{nodeBytes-append, nodeBytes-nil}
 use Rattle.tree.proofs.Visits.{leaves, node-of-next}
-use Rattle.index.specs.Filling.{firstNodes, nodeLengths, InNodes, Counted, StartsOf, Parted, Stands}
+use Rattle.index.specs.Filling.{firstNodes, nodeLengths, InNodes, Counted, Parted, Stands}
+use Rattle.index.specs.Starts.{NodeStarts}
 
 -- ---- the way of a codeword
 
@@ -172,11 +173,11 @@ lengths-fit s t ls before fits e =
     (n, omega (arith, fits .number, levels-most s (fits .closing)), omega (arith, ap total e, fits .most))
 
 -- starts of such lengths part the bytes
-pub parted : (s : ℕ) (t ls before starts bytes : List ℕ) → ls ≡ nodeLengths s (length before) t → length ls < length starts → StartsOf ls starts
+pub parted : (s : ℕ) (t ls before starts bytes : List ℕ) → ls ≡ nodeLengths s (length before) t → NodeStarts ls starts
     → total (nodeLengths s (length before) t) ≡ length bytes → Parted s (length ls) t starts bytes
-parted s t ls before starts bytes e room begin whole =
+parted s t ls before starts bytes e begin whole =
     let n : length ls ≡ length before = ap length e ∙ lengths-number s (length before) t in
-    record { table = room; begin = rw (n, ← e) begin; whole = rw n whole }
+    record { begin = rw (n, ← e) begin; whole = rw n whole }
 
 -- no text has no bytes in any node
 pub counted-none : (s : ℕ) (t : List ℕ) (n : ℕ) → Counted (λ k. nodeBytes s k (take 0 t)) (replicate n 0)
@@ -215,15 +216,15 @@ stands-same f g n starts bytes e s = record {
   stands = λ k i h l. s .stands k i h (omega (arith, ap length (e k))) ∙ ap (λ (xs : List ℕ). getD xs i 0) (e k);
 }
 
-module _ (ns starts : List ℕ) (begin : StartsOf ns starts) where
+module _ (ns starts : List ℕ) (begin : NodeStarts ns starts) where
   -- the start of a node is not before the end of one with a smaller number
   start-after : (j k : ℕ) → j < k → k ≤ length ns → getD starts j 0 + getD ns j 0 ≤ getD starts k 0
   start-after j k h l =
-      omega (arith, begin .start j (omega arith), begin .start k l, total-take-suc ns j (omega arith), total-take-most ns (suc j) k (omega arith))
+      omega (arith, begin .sums j (omega arith), begin .sums k l, total-take-suc ns j (omega arith), total-take-most ns (suc j) k (omega arith))
 
   -- and the end of a node is not past the end of all
   start-inside : (j : ℕ) → j < length ns → getD starts j 0 + getD ns j 0 ≤ total ns
-  start-inside j h = omega (arith, begin .start j (omega arith), total-take-suc ns j h, total-take-whole ns (suc j))
+  start-inside j h = omega (arith, begin .sums j (omega arith), total-take-suc ns j h, total-take-whole ns (suc j))
 
   module _ (f : ℕ → List ℕ) (j b : ℕ) (inside : j < length ns) (room : (k : ℕ) → k < length ns → length (with f j b k) ≤ getD ns k 0) (bytes : List ℕ) (whole : total ns ≡ length bytes) where
     -- there is room for one byte more
@@ -268,7 +269,7 @@ module _ (ns starts : List ℕ) (begin : StartsOf ns starts) where
             stays k i h m (apart k i h m (omega (arith, room k h, ap length e)) (side k n (below-or-not j k))) ∙ ap (λ (xs : List ℕ). getD xs i 0) (sym e)
 
 -- bytes in which each node stands are the nodes, laid end to end
-pub stands-whole : (s n : ℕ) (t starts bytes : List ℕ) → StartsOf (nodeLengths s n t) starts → total (nodeLengths s n t) ≡ length bytes
+pub stands-whole : (s n : ℕ) (t starts bytes : List ℕ) → NodeStarts (nodeLengths s n t) starts → total (nodeLengths s n t) ≡ length bytes
     → Stands (λ k. nodeBytes s k t) n starts bytes → bytes ≡ flatten (firstNodes s n t)
 unfolding firstNodes
 stands-whole s n t starts bytes begin whole st =
@@ -284,7 +285,7 @@ stands-whole s n t starts bytes begin whole st =
         let m : getD ns k 0 ≡ length (nodeBytes s k t) = lengths-at s n t k h in
         ext-getD 0 (getD (segments ns bytes) k []) (nodeBytes s k t) (e ∙ m) (λ i l.
         segment-element ns bytes k i (omega arith)
-        ∙ ap (λ (x : ℕ). getD bytes (x + i) 0) (sym (begin .start k (omega (arith, lengths-number s n t))))
+        ∙ ap (λ (x : ℕ). getD bytes (x + i) 0) (sym (begin .sums k (omega (arith, lengths-number s n t))))
         ∙ st .stands k i h (omega arith))
 
 -- ---- byte i of word p
@@ -321,7 +322,7 @@ module _ (s : ℕ) (t : List ℕ) (p i : ℕ) (more : i < length (word s t p)) (
     pub next-most : (ls : List ℕ) → length ls ≡ n → Counted (held s t p i) ls → getD ls node 0 < maxBytes
     next-most ls e c = omega (arith, c .counted node (omega (arith, next-inside)), room-next, length-most s n t fits node next-inside)
 
-    module _ (starts ls bytes : List ℕ) (begin : StartsOf (nodeLengths s n t) starts) (whole : total (nodeLengths s n t) ≡ length bytes) (number : length ls ≡ n) (c : Counted (held s t p i) ls) where
+    module _ (starts ls bytes : List ℕ) (begin : NodeStarts (nodeLengths s n t) starts) (whole : total (nodeLengths s n t) ≡ length bytes) (number : length ls ≡ n) (c : Counted (held s t p i) ls) where
       -- the length of its node so far
       length-next : getD ls node 0 ≡ length (held s t p i node)
       length-next = c .counted node (omega (arith, next-inside))

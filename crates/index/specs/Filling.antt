@@ -13,6 +13,7 @@ use Rattle.tree.specs.Nodes.{nodeCount, maxNodes, nodeOf, nodeBytes}
 use Rattle.index.specs.declared.Shape.{Shape}
 use Rattle.index.specs.Arrays.{Arrays, arrays, indexOf}
 use Rattle.index.specs.Entries.{isShorter}
+use Rattle.index.specs.Starts.{NodeStarts}
 use Rattle.index.specs.Exact.{WithinLimits, IsText}
 
 -- whether one of the slices z is too short for an index of l bytes
@@ -53,14 +54,9 @@ pub record InNodes (s n : ℕ) (t : List ℕ) : Type 0 where
 pub record Counted (f : ℕ → List ℕ) (lengths : List ℕ) : Type 0 where
   pub counted : (k : ℕ) → k < length lengths → getD lengths k 0 ≡ length (f k)
 
--- each start is the sum of the lengths before it, and past the last of them comes the sum of all
-pub record StartsOf (lengths starts : List ℕ) : Type 0 where
-  pub start : (k : ℕ) → k ≤ length lengths → getD starts k 0 ≡ total (take k lengths)
-
 -- the bytes are parted among the first n nodes of a text: for each node as many as it has, from its start on
 pub record Parted (s n : ℕ) (t starts bytes : List ℕ) : Type 0 where
-  pub table : n < length starts
-  pub begin : StartsOf (nodeLengths s n t) starts
+  pub begin : NodeStarts (nodeLengths s n t) starts
   pub whole : total (nodeLengths s n t) ≡ length bytes
 
 -- from the start of each of the first n nodes on stand the bytes f of the node

@@ -3,3 +3,4 @@ pub mod Entries
 pub mod Exact
 pub mod Tests
 pub mod Filling
+pub mod Starts

@@ -11,7 +11,7 @@ ghost use Rattle.directory.specs.Counters.{maxBytes};
 ghost use Rattle.tree.specs.Nodes.{nodeBytes};
 ghost use Rattle.index.specs.Arrays.{arrays, indexOf};
 ghost use Rattle.index.specs.Exact.{WithinLimits};
-ghost use Rattle.index.specs.Filling.{tooShort, Buildable, fronts, firstNodes, nodeLengths, InNodes, Counted, StartsOf, Parted, Stands};
+ghost use Rattle.index.specs.Filling.{tooShort, Buildable, fronts, firstNodes, nodeLengths, InNodes, Counted, Parted, Stands};
 use crate::Shape;
 
 // Whether one of the slices is too short for an index of so many bytes.
@@ -75,21 +75,6 @@ fn count_nodes(s: usize, text: &[u32], lengths: &mut [u32])
         count_word(s, text, place, lengths);
         place += 1;
     }
-}
-
-// Writes the start of each node and, past the last, the end of all nodes.
-fn node_starts(lengths: &[u32], starts: &mut [u32])
-    requires { ⌜ (length (now lengths) < length (now starts)) × (total (now lengths) ≤ maxBytes) ⌝ }
-    ensures { λ _. ⌜ StartsOf (now (lengths .entry)) (now (starts .exit)) ⌝ }
-{
-    let mut sum: u32 = 0;
-    let mut node = 0;
-    while node < lengths.len() {
-        starts[node] = sum;
-        sum += lengths[node];
-        node += 1;
-    }
-    starts[node] = sum;
 }
 
 // Writes a byte at a position of a node, whose bytes begin the part; the rest stays.
@@ -162,7 +147,7 @@ fn write_nodes(s: usize, text: &[u32], lengths: &mut [u32], bytes: &mut [u8])
 {
     let mut starts = [0u32; 65282];
     count_nodes(s, text, lengths);
-    node_starts(lengths, &mut starts);
+    crate::node_starts(lengths, &mut starts);
     write_words(s, text, &starts, lengths, bytes);
 }
 

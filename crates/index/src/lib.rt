@@ -7,8 +7,13 @@ mod building;
 mod checking;
 
 ghost use mathlib.Core.Path.{_≡_};
+ghost use Prim.Native.Nat.{_≤_, _<_};
+ghost use lib.ListN.{length};
+ghost use Rattle.base.specs.Lists.{total};
 ghost use Rattle.dense.specs.Code.{Closing};
+ghost use Rattle.directory.specs.Counters.{maxBytes};
 ghost use Rattle.index.specs.Arrays.{arrays};
+ghost use Rattle.index.specs.Starts.{NodeStarts};
 ghost use Rattle.index.specs.Entries.{buildAnswer, buildExit, checkAnswer};
 use base::Answer;
 use base::refusal;
@@ -118,4 +123,19 @@ pub fn check(
     ensures { λ r. ⌜ r ≡ checkAnswer 128 shape (arrays (now (lengths .entry)) (now (bytes .entry)) (now (superblocks .entry)) (now (blocks .entry))) ⌝ }
 {
     check_of(dense::CLOSING, shape, lengths, bytes, superblocks, blocks)
+}
+
+// Writes where each node starts in the node bytes, and the end of the last, to the front of a table.
+pub fn node_starts(lengths: &[u32], starts: &mut [u32])
+    requires { ⌜ (length (now lengths) < length (now starts)) × (total (now lengths) ≤ maxBytes) ⌝ }
+    ensures { λ _. ⌜ NodeStarts (now (lengths .entry)) (now (starts .exit)) ⌝ }
+{
+    let mut start: u32 = 0;
+    let mut node = 0;
+    while node < lengths.len() {
+        starts[node] = start;
+        start += lengths[node];
+        node += 1;
+    }
+    starts[node] = start;
 }

@@ -12,7 +12,7 @@ use Rattle.base.specs.Texts.{outside}
 use Rattle.base.proofs.Tests.{and-left, and-right}
 use Rattle.base.proofs.Lists.{all-at, all-of-pass}
 use Rattle.base.proofs.Ranges.{getD-map-range}
-use Rattle.lexicon.specs.Letters.{within, letterOf, letters, letterIn, keeps, isTable, LettersRule, closingByte}
+use Rattle.lexicon.specs.Letters.{within, letterOf, letters, letterIn, keeps, isTable, LettersRule, lineFeed}
 
 -- the letter table follows the rule, by one computed test
 pub letters-rule : LettersRule
@@ -32,13 +32,13 @@ entry-of constant e b h = rw e (letters-at b h)
 pub table-sized : (table : List ℕ) → isTable table ≡ true → length table ≡ 256
 unfolding isTable
 table-sized table e = eqb-true (length table) 256 (and-left (eqb (length table) 256) (allPass (λ (x : ℕ). eqb x 0 || keeps table x) table)
-    (and-left (eqb (length table) 256 && allPass (λ (x : ℕ). eqb x 0 || keeps table x) table) (eqb (letterIn table closingByte) 0) e))
+    (and-left (eqb (length table) 256 && allPass (λ (x : ℕ). eqb x 0 || keeps table x) table) (eqb (letterIn table lineFeed) 0) e))
 
 -- the closing byte of a list is a separator
-pub table-closing : (table : List ℕ) → isTable table ≡ true → letterIn table closingByte ≡ 0
+pub table-closing : (table : List ℕ) → isTable table ≡ true → letterIn table lineFeed ≡ 0
 unfolding isTable
 table-closing table e =
-    eqb-true (letterIn table closingByte) 0 (and-right (eqb (length table) 256 && allPass (λ (x : ℕ). eqb x 0 || keeps table x) table) (eqb (letterIn table closingByte) 0) e)
+    eqb-true (letterIn table lineFeed) 0 (and-right (eqb (length table) 256 && allPass (λ (x : ℕ). eqb x 0 || keeps table x) table) (eqb (letterIn table lineFeed) 0) e)
 
 -- each entry is 0 or a byte that the table keeps
 pub table-entry : (table : List ℕ) → isTable table ≡ true → (x : ℕ) → x < length table → (letterIn table x ≡ 0) ⊎ (letterIn table (letterIn table x) ≡ letterIn table x)
@@ -47,7 +47,7 @@ table-entry table e x h = go (eqb (letterIn table x) 0) refl test
   where
     kept : allPass (λ (y : ℕ). eqb y 0 || keeps table y) table ≡ true
     kept = and-right (eqb (length table) 256) (allPass (λ (y : ℕ). eqb y 0 || keeps table y) table)
-        (and-left (eqb (length table) 256 && allPass (λ (y : ℕ). eqb y 0 || keeps table y) table) (eqb (letterIn table closingByte) 0) e)
+        (and-left (eqb (length table) 256 && allPass (λ (y : ℕ). eqb y 0 || keeps table y) table) (eqb (letterIn table lineFeed) 0) e)
 
     test : eqb (letterIn table x) 0 || keeps table (letterIn table x) ≡ true
     test = all-at (λ (y : ℕ). eqb y 0 || keeps table y ≡ true) table 0 x (all-of-pass (λ (y : ℕ). eqb y 0 || keeps table y) table kept) h

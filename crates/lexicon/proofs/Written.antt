@@ -13,7 +13,7 @@ use lib.Seq.{drop-cons}
 use Rattle.base.specs.Lists.{All, allPass, filterBy, countOf, consFirst, cutAfter}
 use Rattle.base.proofs.Tests.{same-or-not, cond-same, cond-other, and-left, and-right, and-true}
 use Rattle.base.proofs.Lists.{all-of-pass, all-imp}
-use Rattle.lexicon.specs.Letters.{letterIn, keeps, isTable, closingByte}
+use Rattle.lexicon.specs.Letters.{letterIn, keeps, isTable, lineFeed}
 use Rattle.lexicon.specs.Lexicon.{listSize, listWords, isClosed, isSpelling, isSpelled, isWritten}
 use Rattle.lexicon.specs.Reading.{Word, word, extended, wordsFrom, textWords}
 use Rattle.lexicon.specs.Scans.{run, spellings, writtenAfter}
@@ -23,16 +23,16 @@ use Rattle.lexicon.proofs.Scans.{words-skip, words-more, words-later, w
 -- ---- the words of a list
 
 -- a closing byte ends an empty word; another byte belongs to the first word
-pub list-closing : (x : ℕ) (xs : List ℕ) → eqb x closingByte ≡ true → listWords (x ∷ xs) ≡ [] ∷ listWords xs
+pub list-closing : (x : ℕ) (xs : List ℕ) → eqb x lineFeed ≡ true → listWords (x ∷ xs) ≡ [] ∷ listWords xs
 unfolding listWords
 list-closing x xs e = rw (e, e)
 
-pub list-letter : (x : ℕ) (xs : List ℕ) → eqb x closingByte ≡ false → listWords (x ∷ xs) ≡ consFirst x (listWords xs)
+pub list-letter : (x : ℕ) (xs : List ℕ) → eqb x lineFeed ≡ false → listWords (x ∷ xs) ≡ consFirst x (listWords xs)
 unfolding listWords
-list-letter x xs e = rw e (go (cutAfter (λ (y : ℕ). eqb y closingByte) xs))
+list-letter x xs e = rw e (go (cutAfter (λ (y : ℕ). eqb y lineFeed) xs))
   where
     kept : List ℕ → List ℕ
-    kept = filterBy (λ (y : ℕ). not (eqb y closingByte))
+    kept = filterBy (λ (y : ℕ). not (eqb y lineFeed))
 
     go : (ps : List (List ℕ)) → map kept (consFirst x ps) ≡ consFirst x (map kept ps)
     go [] = rw e
@@ -51,7 +51,7 @@ goesOn table [] = false
 goesOn table (x ∷ xs) = isClosed (x ∷ xs) && restWritten table (listWords (x ∷ xs))
 
 -- a list is closed exactly if the bytes behind a closing byte are
-closed-behind : (x : ℕ) (xs : List ℕ) → eqb x closingByte ≡ true → isClosed (x ∷ xs) ≡ isClosed xs
+closed-behind : (x : ℕ) (xs : List ℕ) → eqb x lineFeed ≡ true → isClosed (x ∷ xs) ≡ isClosed xs
 closed-behind x [] e = e
 closed-behind x (y ∷ ys) e = refl
 
@@ -80,7 +80,7 @@ shuffle-one false false = refl
 
 module _ (table : List ℕ) where
   -- a letter in front of bytes that go on a word
-  goes-spelled : (x : ℕ) (xs : List ℕ) → eqb x closingByte ≡ false → isSpelling table x && goesOn table xs ≡ isClosed (x ∷ xs) && allPass (isSpelled table) (consFirst x (listWords xs))
+  goes-spelled : (x : ℕ) (xs : List ℕ) → eqb x lineFeed ≡ false → isSpelling table x && goesOn table xs ≡ isClosed (x ∷ xs) && allPass (isSpelled table) (consFirst x (listWords xs))
   goes-spelled x [] e = and-false (isSpelling table x) ∙ sym (ap (λ (t : Bool). t && allPass (isSpelled table) (consFirst x (listWords []))) e)
   goes-spelled x (y ∷ ys) e = go (listWords (y ∷ ys))
     where
@@ -96,7 +96,7 @@ module _ (table : List ℕ) where
           shuffle (isSpelling table x) (isClosed (y ∷ ys)) (allPass (isSpelling table) l) (allPass (isSpelled table) ls)
           ∙ ap (λ (t : Bool). isClosed (y ∷ ys) && (t && allPass (isSpelled table) ls)) (sym (spelled-more table x l))
 
-  goes-rest : (x : ℕ) (xs : List ℕ) → eqb x closingByte ≡ false → isSpelling table x && goesOn table xs ≡ isClosed (x ∷ xs) && restWritten table (consFirst x (listWords xs))
+  goes-rest : (x : ℕ) (xs : List ℕ) → eqb x lineFeed ≡ false → isSpelling table x && goesOn table xs ≡ isClosed (x ∷ xs) && restWritten table (consFirst x (listWords xs))
   goes-rest x [] e = and-false (isSpelling table x) ∙ sym (ap (λ (t : Bool). t && restWritten table (consFirst x (listWords []))) e)
   goes-rest x (y ∷ ys) e = go (listWords (y ∷ ys))
     where
@@ -108,9 +108,9 @@ module _ (table : List ℕ) where
   both-written : (xs : List ℕ) → (writtenAfter table false xs ≡ isClosed xs && allPass (isSpelled table) (listWords xs)) × (writtenAfter table true xs ≡ goesOn table xs)
   unfolding listWords
   both-written [] = (refl, refl)
-  both-written (x ∷ xs) = go (eqb x closingByte) refl (both-written xs)
+  both-written (x ∷ xs) = go (eqb x lineFeed) refl (both-written xs)
     where
-      go : (t : Bool) → eqb x closingByte ≡ t → (writtenAfter table false xs ≡ isClosed xs && allPass (isSpelled table) (listWords xs)) × (writtenAfter table true xs ≡ goesOn table xs)
+      go : (t : Bool) → eqb x lineFeed ≡ t → (writtenAfter table false xs ≡ isClosed xs && allPass (isSpelled table) (listWords xs)) × (writtenAfter table true xs ≡ goesOn table xs)
           → (cond t (false && writtenAfter table false xs) (isSpelling table x && writtenAfter table true xs) ≡ isClosed (x ∷ xs) && allPass (isSpelled table) (listWords (x ∷ xs)))
           × (cond t (true && writtenAfter table false xs) (isSpelling table x && writtenAfter table true xs) ≡ goesOn table (x ∷ xs))
       go true e ih = (
@@ -136,12 +136,12 @@ module _ (table : List ℕ) where
     after : at < length list → drop at list ≡ getD list at 0 ∷ drop (at + 1) list
     after h = drop-cons list at 0 h ∙ ap (λ (n : ℕ). getD list at 0 ∷ drop n list) (sym (add-one at))
 
-    pub written-closing : at < length list → getD list at 0 ≡ closingByte → writtenAfter table begun (drop at list) ≡ begun && writtenAfter table false (drop (at + 1) list)
-    written-closing h q = ap (writtenAfter table begun) (after h) ∙ cond-same _ _ (getD list at 0) closingByte q
+    pub written-closing : at < length list → getD list at 0 ≡ lineFeed → writtenAfter table begun (drop at list) ≡ begun && writtenAfter table false (drop (at + 1) list)
+    written-closing h q = ap (writtenAfter table begun) (after h) ∙ cond-same _ _ (getD list at 0) lineFeed q
 
-    pub written-letter : at < length list → (getD list at 0 ≡ closingByte → ⊥)
+    pub written-letter : at < length list → (getD list at 0 ≡ lineFeed → ⊥)
         → writtenAfter table begun (drop at list) ≡ isSpelling table (getD list at 0) && writtenAfter table true (drop (at + 1) list)
-    written-letter h n = ap (writtenAfter table begun) (after h) ∙ cond-other _ _ (getD list at 0) closingByte n
+    written-letter h n = ap (writtenAfter table begun) (after h) ∙ cond-other _ _ (getD list at 0) lineFeed n
 
     pub written-end : length list ≤ at → writtenAfter table begun (drop at list) ≡ not begun
     written-end h = ap (writtenAfter table begun) (drop-of-length-le list h)
@@ -163,15 +163,15 @@ module _ (table : List ℕ) where
 
   -- a byte that closes a word or may stand in one
   abbrev pub ListByte : ℕ → Type 0
-  ListByte x = (x ≡ closingByte) ⊎ (isSpelling table x ≡ true)
+  ListByte x = (x ≡ lineFeed) ⊎ (isSpelling table x ≡ true)
 
   pub written-bytes : (begun : Bool) (xs : List ℕ) → writtenAfter table begun xs ≡ true → All ListByte xs
   written-bytes begun [] e = tt
-  written-bytes begun (x ∷ xs) e = go (eqb x closingByte) refl e (λ b. written-bytes b xs)
+  written-bytes begun (x ∷ xs) e = go (eqb x lineFeed) refl e (λ b. written-bytes b xs)
     where
-      go : (t : Bool) → eqb x closingByte ≡ t → cond t (begun && writtenAfter table false xs) (isSpelling table x && writtenAfter table true xs) ≡ true
+      go : (t : Bool) → eqb x lineFeed ≡ t → cond t (begun && writtenAfter table false xs) (isSpelling table x && writtenAfter table true xs) ≡ true
           → ((b : Bool) → writtenAfter table b xs ≡ true → All ListByte xs) → All ListByte (x ∷ xs)
-      go true q e ih = (inl (eqb-true x closingByte q), ih false (and-right begun (writtenAfter table false xs) e))
+      go true q e ih = (inl (eqb-true x lineFeed q), ih false (and-right begun (writtenAfter table false xs) e))
       go false q e ih = (inr (and-left (isSpelling table x) (writtenAfter table true xs) e), ih true (and-right (isSpelling table x) (writtenAfter table true xs) e))
 
   -- a byte that may stand in a word is a letter that the table keeps
@@ -192,11 +192,11 @@ module _ (table : List ℕ) (rule : isTable table ≡ true) where
   spelled-as : List Word → List (List ℕ)
   spelled-as = map (λ (w : Word). w .spelling)
 
-  closing-separates : (x : ℕ) → x ≡ closingByte → letterIn table x ≡ 0
+  closing-separates : (x : ℕ) → x ≡ lineFeed → letterIn table x ≡ 0
   closing-separates x q = rw q (table-closing table rule)
 
-  apart : (x : ℕ) → isSpelling table x ≡ true → eqb x closingByte ≡ false
-  apart x s = ne-eqb x closingByte (λ q. spelling-letter table x s (closing-separates x q))
+  apart : (x : ℕ) → isSpelling table x ≡ true → eqb x lineFeed ≡ false
+  apart x s = ne-eqb x lineFeed (λ q. spelling-letter table x s (closing-separates x q))
 
   -- the words of such bytes as a text are the words of the list that are not empty
   pub text-of-list : (i : ℕ) (xs : List ℕ) → All (ListByte table) xs → map (λ (w : Word). w .spelling) (wordsFrom table i xs) ≡ filterBy nonEmpty (listWords xs)
@@ -208,7 +208,7 @@ module _ (table : List ℕ) (rule : isTable table ≡ true) where
           → map (λ (w : Word). w .spelling) (wordsFrom table i (x ∷ xs)) ≡ filterBy nonEmpty (listWords (x ∷ xs))
       go xs (inl q) a ih =
           ap (map (λ (w : Word). w .spelling)) (words-skip table i x xs (closing-separates x q)) ∙ ih
-          ∙ ap (filterBy nonEmpty) (sym (list-closing x xs (eq-eqb x closingByte q)))
+          ∙ ap (filterBy nonEmpty) (sym (list-closing x xs (eq-eqb x lineFeed q)))
       go [] (inr s) a ih =
           ap (map (λ (w : Word). w .spelling)) (words-more table i x [] (spelling-letter table x s))
           ∙ ap (λ (y : ℕ). (y ∷ []) ∷ []) (spelling-kept table x s)
@@ -219,9 +219,9 @@ module _ (table : List ℕ) (rule : isTable table ≡ true) where
           ∙ ap (extended i (letterIn table x)) (words-skip table (suc i) y ys (closing-separates y q))
           ∙ extended-apart table i (letterIn table x) (wordsFrom table (suc (suc i)) ys) (words-later table (suc (suc i)) ys)
           ∙ ap (λ (ws : List Word). word i (letterIn table x ∷ []) ∷ ws) (sym (words-skip table (suc i) y ys (closing-separates y q))))
-          ∙ ap (λ (ls : List (List ℕ)). (letterIn table x ∷ []) ∷ ls) (ih ∙ ap (filterBy nonEmpty) (list-closing y ys (eq-eqb y closingByte q)))
+          ∙ ap (λ (ls : List (List ℕ)). (letterIn table x ∷ []) ∷ ls) (ih ∙ ap (filterBy nonEmpty) (list-closing y ys (eq-eqb y lineFeed q)))
           ∙ ap (λ (z : ℕ). (z ∷ []) ∷ filterBy nonEmpty (listWords ys)) (spelling-kept table x s)
-          ∙ ap (filterBy nonEmpty) (sym (list-letter x (y ∷ ys) (apart x s) ∙ ap (consFirst x) (list-closing y ys (eq-eqb y closingByte q))))
+          ∙ ap (filterBy nonEmpty) (sym (list-letter x (y ∷ ys) (apart x s) ∙ ap (consFirst x) (list-closing y ys (eq-eqb y lineFeed q))))
       go (y ∷ ys) (inr s) (inr r, a) ih =
           ap (map (λ (w : Word). w .spelling)) (words-more table i x (y ∷ ys) (spelling-letter table x s) ∙ ap (extended i (letterIn table x)) run-of-y)
           ∙ ap (map (λ (w : Word). w .spelling)) (cond-same _ _ (suc i) (suc i) refl)
@@ -255,22 +255,22 @@ module _ (table : List ℕ) (rule : isTable table ≡ true) where
 pub closed-size : (list : List ℕ) → isClosed list ≡ true → length (listWords list) ≡ listSize list
 unfolding listWords listSize
 closed-size [] e = refl
-closed-size (x ∷ xs) e = go (same-or-not x closingByte) xs e (closed-size xs)
+closed-size (x ∷ xs) e = go (same-or-not x lineFeed) xs e (closed-size xs)
   where
-    go : (x ≡ closingByte) ⊎ (x ≡ closingByte → ⊥) → (xs : List ℕ) → isClosed (x ∷ xs) ≡ true → (isClosed xs ≡ true → length (listWords xs) ≡ countOf closingByte xs)
-        → length (listWords (x ∷ xs)) ≡ countOf closingByte (x ∷ xs)
+    go : (x ≡ lineFeed) ⊎ (x ≡ lineFeed → ⊥) → (xs : List ℕ) → isClosed (x ∷ xs) ≡ true → (isClosed xs ≡ true → length (listWords xs) ≡ countOf lineFeed xs)
+        → length (listWords (x ∷ xs)) ≡ countOf lineFeed (x ∷ xs)
     go (inl q) xs e ih =
-        ap length (list-closing x xs (eq-eqb x closingByte q)) ∙ ap suc (ih (sym (closed-behind x xs (eq-eqb x closingByte q)) ∙ e))
-        ∙ sym (cond-same (suc (countOf closingByte xs)) (countOf closingByte xs) x closingByte q)
-    go (inr n) [] e ih = absurd (false≢true (sym (ne-eqb x closingByte n) ∙ e))
+        ap length (list-closing x xs (eq-eqb x lineFeed q)) ∙ ap suc (ih (sym (closed-behind x xs (eq-eqb x lineFeed q)) ∙ e))
+        ∙ sym (cond-same (suc (countOf lineFeed xs)) (countOf lineFeed xs) x lineFeed q)
+    go (inr n) [] e ih = absurd (false≢true (sym (ne-eqb x lineFeed n) ∙ e))
     go (inr n) (y ∷ ys) e ih =
-        ap length (list-letter x (y ∷ ys) (ne-eqb x closingByte n)) ∙ some (eqb y closingByte) refl ∙ ih e
-        ∙ sym (cond-other (suc (countOf closingByte (y ∷ ys))) (countOf closingByte (y ∷ ys)) x closingByte n)
+        ap length (list-letter x (y ∷ ys) (ne-eqb x lineFeed n)) ∙ some (eqb y lineFeed) refl ∙ ih e
+        ∙ sym (cond-other (suc (countOf lineFeed (y ∷ ys))) (countOf lineFeed (y ∷ ys)) x lineFeed n)
       where
         kept : (z : ℕ) (ls : List (List ℕ)) → length (consFirst x (consFirst z ls)) ≡ length (consFirst z ls)
         kept z [] = refl
         kept z (l ∷ ls) = refl
 
-        some : (t : Bool) → eqb y closingByte ≡ t → length (consFirst x (listWords (y ∷ ys))) ≡ length (listWords (y ∷ ys))
+        some : (t : Bool) → eqb y lineFeed ≡ t → length (consFirst x (listWords (y ∷ ys))) ≡ length (listWords (y ∷ ys))
         some true q = rw (list-closing y ys q)
         some false q = rw (list-letter y ys q) (kept y (listWords ys))

@@ -34,12 +34,12 @@ abbrev pub keeps : List ℕ → ℕ → Bool
 keeps table x = eqb (letterIn table x) x
 
 -- the byte that closes a word of a list
-abbrev pub closingByte : ℕ
-closingByte = 0x0A
+abbrev pub lineFeed : ℕ
+lineFeed = 0x0A
 
 -- the rule of a table: it has 256 entries, each 0 or a byte that the table keeps; and the byte that closes the words of a list is a separator
 unfoldable pub isTable : List ℕ → Bool
-isTable table = eqb (length table) 256 && allPass (λ x. eqb x 0 || keeps table x) table && eqb (letterIn table closingByte) 0
+isTable table = eqb (length table) 256 && allPass (λ x. eqb x 0 || keeps table x) table && eqb (letterIn table lineFeed) 0
 
 -- Statement: the letter table follows the rule.
 abbrev pub LettersRule : Type 0

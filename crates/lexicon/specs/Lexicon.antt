@@ -5,20 +5,20 @@ use mathlib.Core.List.{List, [], _∷_, map}
 use lib.Dec.{eqb, ltb}
 use lib.ListN.{length}
 use Rattle.base.specs.Lists.{allPass, filterBy, firstWhere, countOf, same, cutAfter}
-use Rattle.lexicon.specs.Letters.{keeps, closingByte}
+use Rattle.lexicon.specs.Letters.{keeps, lineFeed}
 
 -- V of a list: its number of 0A bytes
 unfoldable pub listSize : List ℕ → ℕ
-listSize list = countOf closingByte list
+listSize list = countOf lineFeed list
 
 -- the words of a list without their 0A, the last one also where it is not closed
 unfoldable pub listWords : List ℕ → List (List ℕ)
-listWords list = map (filterBy (λ x. not (eqb x closingByte))) (cutAfter (λ x. eqb x closingByte) list)
+listWords list = map (filterBy (λ x. not (eqb x lineFeed))) (cutAfter (λ x. eqb x lineFeed) list)
 
 -- whether each word of a list is closed: the list is empty or ends in 0A
 abbrev pub isClosed : List ℕ → Bool
 isClosed [] = true
-isClosed (x ∷ []) = eqb x closingByte
+isClosed (x ∷ []) = eqb x lineFeed
 isClosed (x ∷ y ∷ ys) = isClosed (y ∷ ys)
 
 -- the rank of a word in a list of words, which is where it stands; their number where it is not among them

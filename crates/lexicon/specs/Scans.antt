@@ -5,7 +5,7 @@ use mathlib.Core.Bool.{Bool, false, true, cond, not, _&&_}
 use mathlib.Core.List.{List, [], _∷_, map}
 use lib.Dec.{eqb, ltb}
 use lib.ListN.{length, drop, getD}
-use Rattle.lexicon.specs.Letters.{letterIn, closingByte}
+use Rattle.lexicon.specs.Letters.{letterIn, lineFeed}
 use Rattle.lexicon.specs.Lexicon.{isSpelling}
 use Rattle.lexicon.specs.Reading.{Word, wordsFrom, textWords}
 
@@ -61,4 +61,4 @@ bucketOf w = bucketFrom 0 w
 abbrev pub writtenAfter : List ℕ → Bool → List ℕ → Bool
 writtenAfter table begun [] = not begun
 writtenAfter table begun (x ∷ xs) =
-    cond (eqb x closingByte) (begun && writtenAfter table false xs) (isSpelling table x && writtenAfter table true xs)
+    cond (eqb x lineFeed) (begun && writtenAfter table false xs) (isSpelling table x && writtenAfter table true xs)

@@ -375,7 +375,7 @@ fn same_word(table: &[u8], text: &[u8], start: usize, list: &[u8], at: usize) ->
 }
 
 // The number of words of a list, which is that of its closing bytes.
-fn count_closed(list: &[u8]) -> usize
+fn list_size(list: &[u8]) -> usize
     ensures { λ r. ⌜ r ≡ listSize (now (list .entry)) ⌝ }
 {
     let mut words: usize = 0;
@@ -816,7 +816,7 @@ pub fn read_text_by(table: &[u8], list: &[u8], text: &[u8], ranks: &mut [u32]) -
     requires { ⌜ isTable (now table) ≡ true ⌝ }
     ensures { λ r. ⌜ (r ≡ readTextAnswer (now (table .entry)) (now (list .entry)) (now (text .entry)) (now (ranks .entry))) × (now (ranks .exit) ≡ readTextExit (now (table .entry)) (now (list .entry)) (now (text .entry)) (now (ranks .entry))) ⌝ }
 {
-    let words = count_closed(list);
+    let words = list_size(list);
     if words < 1 {
         return Answer::refused(refusal::VOCABULARY);
     }

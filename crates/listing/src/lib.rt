@@ -121,7 +121,7 @@ pub fn page_of(
         };
     }
     let mut starts = [0u32; 65282];
-    words::node_starts(lengths, &mut starts);
+    index::node_starts(lengths, &mut starts);
     let end = start + count;
     let written = searches::write_page(
         s,

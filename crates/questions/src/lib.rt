@@ -129,7 +129,7 @@ pub fn ask_of(
         return checked;
     }
     let mut starts = [0u32; 65282];
-    words::node_starts(lengths, &mut starts);
+    index::node_starts(lengths, &mut starts);
     answering::answer(
         s,
         shape,
@@ -194,7 +194,7 @@ pub fn passage_of(
         return Answer::refused(refusal::PLACE);
     }
     let mut starts = [0u32; 65282];
-    words::node_starts(lengths, &mut starts);
+    index::node_starts(lengths, &mut starts);
     searches::read_passage(
         s,
         shape,

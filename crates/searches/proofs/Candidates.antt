@@ -1,7 +1,6 @@
 -- The candidates that a search along the occurrences of a word tests. Assumes nothing.
 use Prim.Native.Nat.{ℕ, _+_, _≤_, _<_}
-use mathlib.Core.Path.{_≡_, refl, sym}
-use mathlib.Core.Bool.{Bool, true, false, not}
+use mathlib.Core.Path.{_≡_}
 use mathlib.Core.List.{List}
 use native.Mathlib.Omega.{arith}
 use lib.ListN.{length, take}
@@ -24,12 +23,3 @@ module _ (t : List ℕ) (w i j : ℕ) where
   -- each is a place of the text
   pub candidate-inside : j < countOf w t → candidate t w i j ≤ length t
   candidate-inside b = omega (arith, nth-found w j t b .inside)
-
--- what a negated test says of the test
-pub not-taken : (b : Bool) → not b ≡ true → b ≡ false
-not-taken true e = sym e
-not-taken false e = refl
-
-pub not-left : (b : Bool) → not b ≡ false → b ≡ true
-not-left true e = refl
-not-left false e = sym e

@@ -1,2 +1,3 @@
 pub mod Readied
 pub mod Candidates
+pub mod FirstBytes

@@ -10,14 +10,15 @@ ghost use lib.Dec.{eqb};
 ghost use lib.IntN.{pos, _+ℤ_, natAbs};
 ghost use lib.ListN.{length, getD, take, drop};
 ghost use Rattle.base.specs.Lists.{Below, countOf};
-ghost use Rattle.base.specs.Texts.{maxPhrase, maxOffset};
+ghost use Rattle.base.specs.Texts.{maxWords, maxOffset};
 ghost use Rattle.base.specs.Answers.{front};
 ghost use Rattle.index.specs.Arrays.{arrays, textIn};
 ghost use Rattle.words.specs.Ready.{Ready};
 ghost use Rattle.phrases.specs.Phrases.{stands, places};
 ghost use Rattle.phrases.specs.Neighbours.{standsAt, neighbours as neighboursOf};
 ghost use Rattle.pages.specs.Pages.{pageOver};
-ghost use Rattle.searches.specs.Searching.{Searchable, Rarest, writtenOf};
+ghost use Rattle.dense.specs.Code.{Closing, maxVocabulary};
+ghost use Rattle.searches.specs.Searching.{firstBytes, Searchable, Searching, Rarest, writtenOf, fullAt, endedAt};
 use index::Shape;
 use phrases::Found;
 use tree::Place;
@@ -28,6 +29,33 @@ pub struct Written {
     pub more: bool,
     pub next: usize,
     pub finished: bool,
+}
+
+impl Written {
+    // A full page after which another hit follows: the next place is the last hit plus 1.
+    fn full(count: usize, last: usize) -> Written
+        requires { ⌜ last ≤ maxWords ⌝ }
+        ensures { λ r. ⌜ r ≡ fullAt count last ⌝ }
+    {
+        Written {
+            count,
+            more: true,
+            next: last + 1,
+            finished: false,
+        }
+    }
+
+    // A page after which the hits of a text of n words have run out.
+    fn ended(count: usize, n: usize) -> Written
+        ensures { λ r. ⌜ r ≡ endedAt count n ⌝ }
+    {
+        Written {
+            count,
+            more: false,
+            next: n,
+            finished: true,
+        }
+    }
 }
 
 // Whether a rank stands at a place of the text: the whole word is read.
@@ -58,7 +86,62 @@ pub fn agrees_at(
     found as usize == rank
 }
 
-// Whether a phrase stands at a place of the text.
+// Whether each word of a phrase is the one at its place of the text: the whole words are read.
+fn words_stand(
+    s: usize,
+    shape: Shape,
+    lengths: &[u32],
+    bytes: &[u8],
+    superblocks: &[u32],
+    blocks: &[u16],
+    starts: &[u32],
+    words: &[u32],
+    place: usize,
+) -> bool
+    requires { ⌜ Ready s shape (arrays (now lengths) (now bytes) (now superblocks) (now blocks)) (now starts) × (place + length (now words) ≤ length (textIn s (arrays (now lengths) (now bytes) (now superblocks) (now blocks)))) ⌝ }
+    ensures { λ r. ⌜ r ≡ stands (textIn s (arrays (now (lengths .entry)) (now (bytes .entry)) (now (superblocks .entry)) (now (blocks .entry)))) (now (words .entry)) place ⌝ }
+{
+    let mut i: usize = 0;
+    while i < words.len() {
+        let w = words[i] as usize;
+        let p = place + i;
+        if !agrees_at(s, shape, lengths, bytes, superblocks, blocks, starts, p, w) {
+            return false;
+        }
+        i += 1;
+    }
+    true
+}
+
+// Writes the first byte of the codeword of each word of a phrase to the front of a table.
+fn first_bytes(s: usize, words: &[u32], table: &mut [u8])
+    requires { ⌜ Closing s × Below (maxVocabulary s) (now words) × (length (now words) ≤ length (now table)) ⌝ }
+    ensures { λ _. ⌜ now (table .exit) ≡ front (firstBytes s (now (words .entry))) (now (table .entry)) ⌝ }
+{
+    let mut i: usize = 0;
+    while i < words.len() {
+        table[i] = dense::encode(s, words[i] as usize).first;
+        i += 1;
+    }
+}
+
+// Whether bytes stand in other bytes at a position.
+fn bytes_stand(firsts: &[u8], bytes: &[u8], at: usize) -> bool
+    requires { ⌜ at + length (now firsts) ≤ length (now bytes) ⌝ }
+    ensures { λ r. ⌜ r ≡ stands (now (bytes .entry)) (now (firsts .entry)) at ⌝ }
+{
+    let mut i: usize = 0;
+    while i < firsts.len() {
+        if bytes[at + i] != firsts[i] {
+            return false;
+        }
+        i += 1;
+    }
+    true
+}
+
+// Whether a phrase stands at a place of the text: the first bytes of its words are compared in the
+// root, and where they are those of the words there, the whole words.
 pub fn stands_at(
     s: usize,
     shape: Shape,
@@ -67,35 +150,33 @@ pub fn stands_at(
     superblocks: &[u32],
     blocks: &[u16],
     starts: &[u32],
-    phrase: &[u32],
+    firsts: &[u8],
+    words: &[u32],
     place: usize,
 ) -> bool
-    requires { ⌜ Searchable s shape (arrays (now lengths) (now bytes) (now superblocks) (now blocks)) (now starts) (now phrase) × (place ≤ length (textIn s (arrays (now lengths) (now bytes) (now superblocks) (now blocks)))) ⌝ }
-    ensures { λ r. ⌜ r ≡ stands (textIn s (arrays (now (lengths .entry)) (now (bytes .entry)) (now (superblocks .entry)) (now (blocks .entry)))) (now (phrase .entry)) place ⌝ }
+    requires { ⌜ Searching s shape (arrays (now lengths) (now bytes) (now superblocks) (now blocks)) (now starts) (now firsts) (now words) × (place ≤ length (textIn s (arrays (now lengths) (now bytes) (now superblocks) (now blocks)))) ⌝ }
+    ensures { λ r. ⌜ r ≡ stands (textIn s (arrays (now (lengths .entry)) (now (bytes .entry)) (now (superblocks .entry)) (now (blocks .entry)))) (now (words .entry)) place ⌝ }
 {
     let n = words::text_length(lengths);
-    if n < place + phrase.len() {
+    if n < place + words.len() {
         return false;
     }
-    let mut i: usize = 0;
-    while i < phrase.len() {
-        let rank = phrase[i] as usize;
-        if !agrees_at(
-            s,
-            shape,
-            lengths,
-            bytes,
-            superblocks,
-            blocks,
-            starts,
-            place + i,
-            rank,
-        ) {
-            return false;
-        }
-        i += 1;
+    let alike = bytes_stand(firsts, bytes, place);
+    if !alike {
+        return false;
     }
-    true
+    let same = words_stand(
+        s,
+        shape,
+        lengths,
+        bytes,
+        superblocks,
+        blocks,
+        starts,
+        words,
+        place,
+    );
+    same
 }
 
 // The index of a word of a phrase than which none of its words stands less often in the text.
@@ -107,34 +188,18 @@ pub fn rarest(
     superblocks: &[u32],
     blocks: &[u16],
     starts: &[u32],
-    phrase: &[u32],
+    words: &[u32],
 ) -> usize
-    requires { ⌜ Searchable s shape (arrays (now lengths) (now bytes) (now superblocks) (now blocks)) (now starts) (now phrase) ⌝ }
-    ensures { λ r. ⌜ Rarest (textIn s (arrays (now (lengths .entry)) (now (bytes .entry)) (now (superblocks .entry)) (now (blocks .entry)))) (now (phrase .entry)) r ⌝ }
+    requires { ⌜ Searchable s shape (arrays (now lengths) (now bytes) (now superblocks) (now blocks)) (now starts) (now words) ⌝ }
+    ensures { λ r. ⌜ Rarest (textIn s (arrays (now (lengths .entry)) (now (bytes .entry)) (now (superblocks .entry)) (now (blocks .entry)))) (now (words .entry)) r ⌝ }
 {
     let mut rare: usize = 0;
-    let mut least = words::frequency(
-        s,
-        shape,
-        lengths,
-        bytes,
-        superblocks,
-        blocks,
-        starts,
-        phrase[0] as usize,
-    );
+    let first = words[0] as usize;
+    let mut least = words::frequency(s, shape, lengths, bytes, superblocks, blocks, starts, first);
     let mut i: usize = 1;
-    while i < phrase.len() {
-        let often = words::frequency(
-            s,
-            shape,
-            lengths,
-            bytes,
-            superblocks,
-            blocks,
-            starts,
-            phrase[i] as usize,
-        );
+    while i < words.len() {
+        let w = words[i] as usize;
+        let often = words::frequency(s, shape, lengths, bytes, superblocks, blocks, starts, w);
         if often < least {
             least = often;
             rare = i;
@@ -173,8 +238,9 @@ pub fn below(
     )
 }
 
-// How often a phrase stands in the text: along the occurrences of its rarest word.
-pub fn count_phrase(
+// How often a phrase with these first bytes stands in the text: along the occurrences of its rarest
+// word.
+fn count_along(
     s: usize,
     shape: Shape,
     lengths: &[u32],
@@ -182,47 +248,20 @@ pub fn count_phrase(
     superblocks: &[u32],
     blocks: &[u16],
     starts: &[u32],
-    phrase: &[u32],
+    firsts: &[u8],
+    words: &[u32],
 ) -> usize
-    requires { ⌜ Searchable s shape (arrays (now lengths) (now bytes) (now superblocks) (now blocks)) (now starts) (now phrase) ⌝ }
-    ensures { λ r. ⌜ r ≡ length (places (textIn s (arrays (now (lengths .entry)) (now (bytes .entry)) (now (superblocks .entry)) (now (blocks .entry)))) (now (phrase .entry))) ⌝ }
+    requires { ⌜ Searching s shape (arrays (now lengths) (now bytes) (now superblocks) (now blocks)) (now starts) (now firsts) (now words) ⌝ }
+    ensures { λ r. ⌜ r ≡ length (places (textIn s (arrays (now (lengths .entry)) (now (bytes .entry)) (now (superblocks .entry)) (now (blocks .entry)))) (now (words .entry))) ⌝ }
 {
-    let i = rarest(
-        s,
-        shape,
-        lengths,
-        bytes,
-        superblocks,
-        blocks,
-        starts,
-        phrase,
-    );
-    let rank = phrase[i] as usize;
-    let stop = words::frequency(s, shape, lengths, bytes, superblocks, blocks, starts, rank);
+    let i = rarest(s, shape, lengths, bytes, superblocks, blocks, starts, words);
+    let w = words[i] as usize;
+    let stop = words::frequency(s, shape, lengths, bytes, superblocks, blocks, starts, w);
     let mut count: usize = 0;
-    let mut j = below(
-        s,
-        shape,
-        lengths,
-        bytes,
-        superblocks,
-        blocks,
-        starts,
-        rank,
-        i,
-    );
+    let mut j = below(s, shape, lengths, bytes, superblocks, blocks, starts, w, i);
     while j < stop {
-        let place = words::place_of(
-            s,
-            shape,
-            lengths,
-            bytes,
-            superblocks,
-            blocks,
-            starts,
-            rank,
-            j,
-        );
+        let at = words::place_of(s, shape, lengths, bytes, superblocks, blocks, starts, w, j);
+        let q = at.0 - i;
         if stands_at(
             s,
             shape,
@@ -231,8 +270,9 @@ pub fn count_phrase(
             superblocks,
             blocks,
             starts,
-            phrase,
-            place.0 - i,
+            firsts,
+            words,
+            q,
         ) {
             count += 1;
         }
@@ -241,9 +281,8 @@ pub fn count_phrase(
     count
 }
 
-// Writes the places at or after the next one at which a phrase stands to the front of a slice, until
-// it is full or they run out. It stops at the one hit after a full slice.
-pub fn write_page(
+// How often a phrase stands in the text.
+pub fn count_phrase(
     s: usize,
     shape: Shape,
     lengths: &[u32],
@@ -251,15 +290,15 @@ pub fn write_page(
     superblocks: &[u32],
     blocks: &[u16],
     starts: &[u32],
-    phrase: &[u32],
-    next: usize,
-    lines: &mut [u32],
-) -> Written
-    requires { ⌜ Searchable s shape (arrays (now lengths) (now bytes) (now superblocks) (now blocks)) (now starts) (now phrase) × (next ≤ length (textIn s (arrays (now lengths) (now bytes) (now superblocks) (now blocks)))) ⌝ }
-    ensures { λ r. ⌜ (r ≡ writtenOf (pageOver (stands (textIn s (arrays (now (lengths .entry)) (now (bytes .entry)) (now (superblocks .entry)) (now (blocks .entry)))) (now (phrase .entry))) (length (textIn s (arrays (now (lengths .entry)) (now (bytes .entry)) (now (superblocks .entry)) (now (blocks .entry))))) (length (now (lines .entry))) next false))
-        × (now (lines .exit) ≡ front (pageOver (stands (textIn s (arrays (now (lengths .entry)) (now (bytes .entry)) (now (superblocks .entry)) (now (blocks .entry)))) (now (phrase .entry))) (length (textIn s (arrays (now (lengths .entry)) (now (bytes .entry)) (now (superblocks .entry)) (now (blocks .entry))))) (length (now (lines .entry))) next false .found) (now (lines .entry))) ⌝ }
+    words: &[u32],
+) -> usize
+    requires { ⌜ Searchable s shape (arrays (now lengths) (now bytes) (now superblocks) (now blocks)) (now starts) (now words) ⌝ }
+    ensures { λ r. ⌜ r ≡ length (places (textIn s (arrays (now (lengths .entry)) (now (bytes .entry)) (now (superblocks .entry)) (now (blocks .entry)))) (now (words .entry))) ⌝ }
 {
-    let i = rarest(
+    let mut table = [0u8; 16];
+    first_bytes(s, words, &mut table);
+    let m = words.len();
+    count_along(
         s,
         shape,
         lengths,
@@ -267,12 +306,36 @@ pub fn write_page(
         superblocks,
         blocks,
         starts,
-        phrase,
-    );
-    let rank = phrase[i] as usize;
-    let stop = words::frequency(s, shape, lengths, bytes, superblocks, blocks, starts, rank);
+        &table[..m],
+        words,
+    )
+}
+
+// Writes the places at or after the next one at which a phrase with these first bytes stands to the
+// front of a slice, until it is full or they run out. It stops at the one hit after a full slice.
+fn page_along(
+    s: usize,
+    shape: Shape,
+    lengths: &[u32],
+    bytes: &[u8],
+    superblocks: &[u32],
+    blocks: &[u16],
+    starts: &[u32],
+    firsts: &[u8],
+    words: &[u32],
+    next: usize,
+    lines: &mut [u32],
+) -> Written
+    requires { ⌜ Searching s shape (arrays (now lengths) (now bytes) (now superblocks) (now blocks)) (now starts) (now firsts) (now words) × (next ≤ length (textIn s (arrays (now lengths) (now bytes) (now superblocks) (now blocks)))) ⌝ }
+    ensures { λ r. ⌜ (r ≡ writtenOf (pageOver (stands (textIn s (arrays (now (lengths .entry)) (now (bytes .entry)) (now (superblocks .entry)) (now (blocks .entry)))) (now (words .entry))) (length (textIn s (arrays (now (lengths .entry)) (now (bytes .entry)) (now (superblocks .entry)) (now (blocks .entry))))) (length (now (lines .entry))) next false))
+        × (now (lines .exit) ≡ front (pageOver (stands (textIn s (arrays (now (lengths .entry)) (now (bytes .entry)) (now (superblocks .entry)) (now (blocks .entry)))) (now (words .entry))) (length (textIn s (arrays (now (lengths .entry)) (now (bytes .entry)) (now (superblocks .entry)) (now (blocks .entry))))) (length (now (lines .entry))) next false .found) (now (lines .entry))) ⌝ }
+{
+    let i = rarest(s, shape, lengths, bytes, superblocks, blocks, starts, words);
+    let w = words[i] as usize;
+    let stop = words::frequency(s, shape, lengths, bytes, superblocks, blocks, starts, w);
     let mut count: usize = 0;
     let mut last: usize = 0;
+    let from = next + i;
     let mut j = below(
         s,
         shape,
@@ -281,22 +344,12 @@ pub fn write_page(
         superblocks,
         blocks,
         starts,
-        rank,
-        next + i,
+        w,
+        from,
     );
     while j < stop {
-        let place = words::place_of(
-            s,
-            shape,
-            lengths,
-            bytes,
-            superblocks,
-            blocks,
-            starts,
-            rank,
-            j,
-        ).0
-            - i;
+        let at = words::place_of(s, shape, lengths, bytes, superblocks, blocks, starts, w, j);
+        let q = at.0 - i;
         if stands_at(
             s,
             shape,
@@ -305,29 +358,55 @@ pub fn write_page(
             superblocks,
             blocks,
             starts,
-            phrase,
-            place,
+            firsts,
+            words,
+            q,
         ) {
             if count == lines.len() {
-                return Written {
-                    count,
-                    more: true,
-                    next: last + 1,
-                    finished: false,
-                };
+                return Written::full(count, last);
             }
-            lines[count] = place as u32;
+            lines[count] = q as u32;
             count += 1;
-            last = place;
+            last = q;
         }
         j += 1;
     }
-    Written {
-        count,
-        more: false,
-        next: words::text_length(lengths),
-        finished: true,
-    }
+    Written::ended(count, words::text_length(lengths))
+}
+
+// Writes a page of the places at or after the next one at which a phrase stands.
+pub fn write_page(
+    s: usize,
+    shape: Shape,
+    lengths: &[u32],
+    bytes: &[u8],
+    superblocks: &[u32],
+    blocks: &[u16],
+    starts: &[u32],
+    words: &[u32],
+    next: usize,
+    lines: &mut [u32],
+) -> Written
+    requires { ⌜ Searchable s shape (arrays (now lengths) (now bytes) (now superblocks) (now blocks)) (now starts) (now words) × (next ≤ length (textIn s (arrays (now lengths) (now bytes) (now superblocks) (now blocks)))) ⌝ }
+    ensures { λ r. ⌜ (r ≡ writtenOf (pageOver (stands (textIn s (arrays (now (lengths .entry)) (now (bytes .entry)) (now (superblocks .entry)) (now (blocks .entry)))) (now (words .entry))) (length (textIn s (arrays (now (lengths .entry)) (now (bytes .entry)) (now (superblocks .entry)) (now (blocks .entry))))) (length (now (lines .entry))) next false))
+        × (now (lines .exit) ≡ front (pageOver (stands (textIn s (arrays (now (lengths .entry)) (now (bytes .entry)) (now (superblocks .entry)) (now (blocks .entry)))) (now (words .entry))) (length (textIn s (arrays (now (lengths .entry)) (now (bytes .entry)) (now (superblocks .entry)) (now (blocks .entry))))) (length (now (lines .entry))) next false .found) (now (lines .entry))) ⌝ }
+{
+    let mut table = [0u8; 16];
+    first_bytes(s, words, &mut table);
+    let m = words.len();
+    page_along(
+        s,
+        shape,
+        lengths,
+        bytes,
+        superblocks,
+        blocks,
+        starts,
+        &table[..m],
+        words,
+        next,
+        lines,
+    )
 }
 
 // Whether a rank stands at an offset from a place: never where that is outside the text.

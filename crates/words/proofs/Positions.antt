@@ -1,24 +1,27 @@
 -- The text of arrays that have passed the check, and its places as positions in their nodes. Assumes nothing.
-use Prim.Native.Nat.{ℕ, _-_, _≤_, _<_}
+use Prim.Native.Nat.{ℕ, _+_, _-_, _≤_, _<_}
 use mathlib.Core.Path.{_≡_, sym, ap, _∙_}
-use mathlib.Core.List.{List, [], _∷_, _++_}
+use mathlib.Core.List.{List, [], _∷_, _++_, map}
 use native.Mathlib.Nat.{div-le-self}
 use native.Mathlib.Omega.{arith}
-use lib.ListN.{length, take, getD, length-take}
+use lib.ListN.{length, take, getD, length-take, length-map}
 use Rattle.base.specs.Lists.{Below, countOf, nth}
-use Rattle.base.proofs.Lists.{all-at, below-weaken}
+use Rattle.base.proofs.Lists.{all-at, below-weaken, getD-map}
+use Rattle.base.proofs.Segments.{segment-element}
+use Rattle.base.proofs.Sums.{total-take-suc, total-take-whole}
 use Rattle.base.proofs.Counts.{nth-here, count-take-less}
 use Rattle.dense.specs.Code.{continuing, maxVocabulary, code}
-use Rattle.tree.specs.Nodes.{parent, digit, nodeOf, closingByte, path, nodeBytes, position}
+use Rattle.tree.specs.Nodes.{parent, digit, nodeOf, closingByte, path, firstByte, nodeBytes, position}
 use Rattle.tree.proofs.Numbers.{digit-below, child-of-parent, node-of-below}
 use Rattle.tree.proofs.Paths.{path-further, code-end}
 use Rattle.tree.proofs.Frequency.{take-position, position-root, position-child, byte-of-place, position-inside, occurrences-below, frequency}
+use Rattle.tree.proofs.Nodes.{byte-at, reach-root}
 use Rattle.tree.proofs.Passing.{text-below}
 use Rattle.tree.proofs.Words.{length-of-text, node-of-text}
 use Rattle.index.specs.declared.Shape.{Shape}
 use Rattle.index.specs.Arrays.{Arrays, nodesIn, textIn}
 use Rattle.words.specs.Ready.{Checked}
-use Rattle.words.proofs.Parts.{nodeIn, checked-tested, checked-number}
+use Rattle.words.proofs.Parts.{nodeIn, checked-tested, checked-number, checked-some, node-size}
 
 -- the parent of a node other than the root has a smaller number
 pub parent-less : (s k : ℕ) → 1 ≤ k → parent s k < k
@@ -52,6 +55,21 @@ module _ {s : ℕ} {shape : Shape} {a : Arrays} (checked : Checked s shape a) wh
   node-is : (k : ℕ) → nodeIn a k ≡ nodeBytes s k (textIn s a)
   unfolding textIn
   node-is k = node-of-text s (checked .closing) (shape .vocabulary) (checked .limits .mostWords) (nodesIn a) (checked-tested checked .good) k
+
+  -- the byte of the root at a place, which is the byte at that position of all, is the first of the codeword of the word there
+  pub root-byte : (p : ℕ) → p < length (textIn s a) → getD (a .bytes) p 0 ≡ firstByte (code s (getD (textIn s a) p 0))
+  root-byte p h =
+      let z : 0 + p ≡ p = omega arith in
+      ap (λ (i : ℕ). getD (a .bytes) i 0) (sym z)
+      ∙ sym (segment-element (a .lengths) (a .bytes) 0 p (omega (arith, text-size, node-size checked 0)))
+      ∙ ap (λ (x : List ℕ). getD x p 0) (node-is 0)
+      ∙ byte-at s 0 p (textIn s a) (rw (reach-root s (textIn s a), length-map (textIn s a) (code s)) h)
+      ∙ ap firstByte (ap (λ (x : List (List ℕ)). getD x p []) (reach-root s (textIn s a)) ∙ getD-map (code s) (textIn s a) p [] 0 h)
+
+  -- and the root lies inside the bytes
+  pub root-inside : length (textIn s a) ≤ length (a .bytes)
+  root-inside =
+      omega (arith, text-size, node-size checked 0, total-take-suc (a .lengths) 0 (checked-some checked), total-take-whole (a .lengths) 1, checked-tested checked .whole)
 
   -- ---- positions
 

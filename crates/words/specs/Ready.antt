@@ -4,11 +4,11 @@ use mathlib.Core.Path.{_≡_}
 use mathlib.Core.Bool.{true}
 use mathlib.Core.List.{List}
 use lib.ListN.{length, take, drop, getD}
-use Rattle.base.specs.Lists.{total}
 use Rattle.dense.specs.Code.{Closing}
 use Rattle.directory.specs.Counters.{Sizes, Directory}
 use Rattle.index.specs.declared.Shape.{Shape}
 use Rattle.index.specs.Arrays.{Arrays, arrays, textIn, passes}
+use Rattle.index.specs.Starts.{NodeStarts}
 use Rattle.index.specs.Exact.{WithinLimits}
 
 -- the arrays have passed the check
@@ -20,14 +20,7 @@ pub record Checked (s : ℕ) (shape : Shape) (a : Arrays) : Type 0 where
   -- some text of the vocabulary has the arrays as its index
   pub passed : passes s shape a ≡ true
 
--- a table has, for each node, its start in the node bytes, and then the end of the last node; what stands past that does not matter
-pub record NodeStarts (lengths starts : List ℕ) : Type 0 where
-  -- there is an element for each node and one for the end
-  pub room : length lengths < length starts
-  -- each is the sum of the lengths of the nodes before it
-  pub sums : (k : ℕ) → k ≤ length lengths → getD starts k 0 ≡ total (take k lengths)
-
--- the bytes of node k by such a table: from its start on, as many as lie before the next start
+-- the bytes of node k by a table of node starts: from its start on, as many as lie before the next start
 abbrev pub nodeFrom : List ℕ → List ℕ → ℕ → List ℕ
 nodeFrom bytes starts k = take (getD starts (suc k) 0 - getD starts k 0) (drop (getD starts k 0) bytes)
 

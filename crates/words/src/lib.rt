@@ -3,35 +3,19 @@
 // and asks the directory at most twice in each.
 //
 // No function of this crate is an entry: the public ones require that the four slices have passed
-// the check and that `starts` is a table that `node_starts` has filled, the others what their
+// the check and that `starts` is a table that `index::node_starts` has filled, the others what their
 // callers have shown. What they answer is defined over the text of the slices.
 ghost use mathlib.Core.Path.{_≡_};
 ghost use Prim.Native.Nat.{_≤_, _<_};
 ghost use lib.ListN.{length, getD, take};
-ghost use Rattle.base.specs.Lists.{total, countOf, nth};
-ghost use Rattle.directory.specs.Counters.{maxBytes};
+ghost use Rattle.base.specs.Lists.{countOf, nth};
 ghost use Rattle.tree.specs.Nodes.{position};
 ghost use Rattle.index.specs.Arrays.{arrays, textIn};
 ghost use Rattle.words.specs.Words.{rankAt, occurrencesBelow, frequency};
-ghost use Rattle.words.specs.Ready.{NodeStarts, nodeFrom, Counted, Ready, WordsOf};
+ghost use Rattle.words.specs.Ready.{nodeFrom, Counted, Ready, WordsOf};
 use index::Shape;
 use tree::Place;
 use tree::Position;
-
-// Writes where each node starts in the node bytes, and the end of the last, to the front of a table.
-pub fn node_starts(lengths: &[u32], starts: &mut [u32])
-    requires { ⌜ (length (now lengths) < length (now starts)) × (total (now lengths) ≤ maxBytes) ⌝ }
-    ensures { λ _. ⌜ NodeStarts (now (lengths .entry)) (now (starts .exit)) ⌝ }
-{
-    let mut start: u32 = 0;
-    let mut node = 0;
-    while node < lengths.len() {
-        starts[node] = start;
-        start += lengths[node];
-        node += 1;
-    }
-    starts[node] = start;
-}
 
 // The number of words of the text: the length of the root.
 pub fn text_length(lengths: &[u32]) -> usize

@@ -5,9 +5,6 @@ use lib.Seq.{length-take-le}
 use borrow.Author.Needs.{needs}
 use Rattle.index_cases.proofs.checked.Statement.{statement}
 use Rattle.index_cases.proofs.checked.Tie as tie
-use Rattle.index_cases.proofs.checked.Reads as reads
-use Rattle.index_cases.proofs.checked.Lts as lts
-use Rattle.index.proofs.check.Reads as check-reads
 
 returns : tie.Need-returns
 returns c = search needs

@@ -25,7 +25,7 @@ use Rattle.lexicon.proofs.read_text_by.Tie as tie
 -- past the tests of the list's size, it is within its limits
 size-inside : (c : tie.Else2) → outside 1 (maxVocabulary 128) (listSize (c .before .before .before .before .before .before .before .args .list .now)) ≡ false
 size-inside c =
-    inside-range 1 (maxVocabulary 128) (listSize (c .before .before .before .before .before .before .before .args .list .now)) (omega (arith, c .before .before .count-closed .ensures, c .before .if1 .left)) (omega (arith, c .before .before .count-closed .ensures, c .if2 .left))
+    inside-range 1 (maxVocabulary 128) (listSize (c .before .before .before .before .before .before .before .args .list .now)) (omega (arith, c .before .before .list-size .ensures, c .before .if1 .left)) (omega (arith, c .before .before .list-size .ensures, c .if2 .left))
 
 -- past the tests of the text's size, it is within the limit, and the slice has room
 few-words : (c : tie.Else3) → length (textWords (c .before .before .before .before .before .before .before .before .before .args .table .now) (c .before .before .before .before .before .before .before .before .before .args .text .now)) ≤ maxWords
@@ -38,8 +38,8 @@ has-room c = rw (← c .before .before .count-words .ensures) (c .if4 .left)
 written-of : (c : tie.Else5) → isWritten (c .before .before .before .before .before .before .before .before .before .before .before .before .args .table .now) (c .before .before .before .before .before .before .before .before .before .before .before .before .args .list .now) ≡ true
 written-of c = sym (c .before .is-written .ensures) ∙ not-false (c .before .is-written .result) (c .if5 .left)
 
-sized-of : (c : tie.Else5) → c .before .before .before .before .before .before .before .count-closed .result ≡ length (spellings (c .before .before .before .before .before .before .before .before .before .before .before .before .args .table .now) (c .before .before .before .before .before .before .before .before .before .before .before .before .args .list .now))
-sized-of c = c .before .before .before .before .before .before .before .count-closed .ensures ∙ list-sized (c .before .before .before .before .before .before .before .before .before .before .before .before .args .table .now) (c .before .before .before .before .before .before .before .before .before .before .before .before .pre) (c .before .before .before .before .before .before .before .before .before .before .before .before .args .list .now) (written-of c)
+sized-of : (c : tie.Else5) → c .before .before .before .before .before .before .before .list-size .result ≡ length (spellings (c .before .before .before .before .before .before .before .before .before .before .before .before .args .table .now) (c .before .before .before .before .before .before .before .before .before .before .before .before .args .list .now))
+sized-of c = c .before .before .before .before .before .before .before .list-size .ensures ∙ list-sized (c .before .before .before .before .before .before .before .before .before .before .before .before .args .table .now) (c .before .before .before .before .before .before .before .before .before .before .before .before .pre) (c .before .before .before .before .before .before .before .before .before .before .before .before .args .list .now) (written-of c)
 
 once-of : (c : tie.Else6) → distinct (spellings (c .before .before .before .before .before .before .before .before .before .before .before .before .before .before .args .table .now) (c .before .before .before .before .before .before .before .before .before .before .before .before .before .before .args .list .now)) ≡ true
 once-of c = sym (c .before .is-distinct .ensures) ∙ not-false (c .before .is-distinct .result) (c .if6 .left)
@@ -64,8 +64,8 @@ accepts c =
       listed = listed-of c;
     }
 
-count-closed-requires : tie.Need-count-closed-requires
-count-closed-requires c κs = tt
+list-size-requires : tie.Need-list-size-requires
+list-size-requires c κs = tt
 
 refused-requires : tie.Need-refused-requires
 refused-requires c κs = tt
@@ -73,7 +73,7 @@ refused-requires c κs = tt
 returns : tie.Need-returns
 returns c = let a = c .before .before .before .before .before .before .before .args in
     read-refused (a .table .now) (a .list .now) (a .text .now) (a .ranks .now) 1 0 refl
-    (read-vocabulary (a .table .now) (a .list .now) (a .text .now) (a .ranks .now) (below-range 1 (maxVocabulary 128) (listSize (a .list .now)) (omega (arith, c .before .before .count-closed .ensures, c .before .if1 .taken))))
+    (read-vocabulary (a .table .now) (a .list .now) (a .text .now) (a .ranks .now) (below-range 1 (maxVocabulary 128) (listSize (a .list .now)) (omega (arith, c .before .before .list-size .ensures, c .before .if1 .taken))))
     (c .refused .result) (c .refused .ensures)
 
 refused-requires-2 : tie.Need-refused-requires-2
@@ -82,7 +82,7 @@ refused-requires-2 c κs = tt
 returns-2 : tie.Need-returns-2
 returns-2 c = let a = c .before .before .before .before .before .before .before .before .args in
     read-refused (a .table .now) (a .list .now) (a .text .now) (a .ranks .now) 1 0 refl
-    (read-vocabulary (a .table .now) (a .list .now) (a .text .now) (a .ranks .now) (above-range 1 (maxVocabulary 128) (listSize (a .list .now)) (omega (arith, c .before .before .before .count-closed .ensures, c .before .if2 .taken))))
+    (read-vocabulary (a .table .now) (a .list .now) (a .text .now) (a .ranks .now) (above-range 1 (maxVocabulary 128) (listSize (a .list .now)) (omega (arith, c .before .before .before .list-size .ensures, c .before .if2 .taken))))
     (c .refused2 .result) (c .refused2 .ensures)
 
 count-words-requires : tie.Need-count-words-requires
@@ -179,7 +179,7 @@ pub read-text-by-spec : {M : Type 1} → statement M
 read-text-by-spec =
     tie.close
     (tie.spec
-    count-closed-requires
+    list-size-requires
     refused-requires
     returns
     refused-requires-2

@@ -29,15 +29,6 @@ use Rattle.listing.proofs.Paged.{page-refused, page-written, page-finis
 use borrow.Author.Needs.{needs}
 use Rattle.listing.proofs.page_of.Statement.{statement}
 use Rattle.listing.proofs.page_of.Tie as tie
-use Rattle.listing.proofs.page_of.Reads as reads
-use Rattle.listing.proofs.page_of.Lts as lts
-use Rattle.base.proofs.Answer.accepted.Reads as accepted-reads
-use Rattle.base.proofs.Answer.refused.Reads as refused-reads
-use Rattle.index.proofs.check_of.Reads as check-of-reads
-use Rattle.questions.proofs.answering.phrase_refusal.Reads as phrase-refusal-reads
-use Rattle.searches.proofs.write_page.Reads as write-page-reads
-use Rattle.words.proofs.node_starts.Reads as node-starts-reads
-use Rattle.words.proofs.text_length.Reads as text-length-reads
 
 -- the call, and the four slices that it brings
 abbrev four : tie.Start → Arrays

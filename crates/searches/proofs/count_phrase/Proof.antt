@@ -1,151 +1,46 @@
--- `searches::count_phrase` meets its contract: the candidates are the occurrences of a word of the phrase. Assumes nothing.
-use Prim.Native.Nat.{ℕ, _-_, _≤_, _<_}
-use mathlib.Core.Path.{_≡_, sym, ap, _∙_}
-use mathlib.Core.Logic.{⊎-elim}
+-- `searches::count_phrase` meets its contract: it hands on the first bytes of the words. Assumes nothing.
+use mathlib.Core.Path.{sym, ap, _∙_}
 use native.Mathlib.Omega.{arith}
 use borrow.Author.Needs.{needs}
-use lib.ListN.{length, getD, take}
-use Rattle.index.specs.Arrays.{arrays, textIn}
-use Rattle.base.specs.Lists.{countOf}
-use Rattle.base.proofs.Lists.{all-at}
-use Rattle.base.proofs.Counts.{count-take-whole}
-use Rattle.phrases.specs.Phrases.{stands}
-use Rattle.phrases.specs.Anchors.{candidate}
-use Rattle.phrases.proofs.Anchors.{places-along}
-use Rattle.pages.proofs.Along.{along}
-use Rattle.pages.proofs.Counting.{count-starts, count-most, count-taken, count-passed, count-over}
-use Rattle.searches.proofs.Candidates.{candidate-there, candidate-inside}
+use lib.ListN.{length}
+use Rattle.base.proofs.Lists.{below-weaken}
+use Rattle.dense.specs.Code.{maxVocabulary}
+use Rattle.searches.proofs.FirstBytes.{first-bytes-length, first-bytes-part, searching}
 use Rattle.searches.proofs.count_phrase.Statement.{statement}
 use Rattle.searches.proofs.count_phrase.Tie as tie
 
-abbrev Inv-loop : tie.InvT-loop
-Inv-loop s shape lengths bytes superblocks blocks starts phrase i rank stop count₀ j₀ count j = (countOf rank (take i (textIn s (arrays lengths bytes superblocks blocks))) ≤ j) × (j ≤ stop) × (count ≡ length (along (stands (textIn s (arrays lengths bytes superblocks blocks)) phrase) (candidate (textIn s (arrays lengths bytes superblocks blocks)) rank i) (countOf rank (take i (textIn s (arrays lengths bytes superblocks blocks)))) (j - countOf rank (take i (textIn s (arrays lengths bytes superblocks blocks))))))
+slice-aggregate-first-bytes : tie.Need-slice-aggregate-first-bytes
+slice-aggregate-first-bytes c = search needs
 
-abbrev μ-loop : tie.MeasureT-loop
-μ-loop s shape lengths bytes superblocks blocks starts phrase i rank stop count₀ j₀ count j = stop - j
+first-bytes-requires : tie.Need-first-bytes-requires
+first-bytes-requires c κs =
+    let st = c .before .before .before .before .before .before .before in
+    let p = st .pre in
+    (p .ready .checked .closing, below-weaken (st .args .shape .vocabulary) (maxVocabulary (st .args .s)) (st .args .words .now) (p .ready .checked .limits .mostWords) (p .below), omega (arith, p .most))
 
-rarest-requires : tie.Need-rarest-requires Inv-loop μ-loop
-rarest-requires c κs = c .before .before .before .before .before .before .pre
+array-share-prefix-table : tie.Need-array-share-prefix-table
+array-share-prefix-table c = search needs
 
-mul-rank : tie.Need-mul-rank Inv-loop μ-loop
-mul-rank c = omega (arith, c .rarest .ensures .inside, c .before .before .before .before .before .before .before .pre .most)
-
-shared-slice-read-rank : tie.Need-shared-slice-read-rank Inv-loop μ-loop
-shared-slice-read-rank c = c .before .rarest .ensures .inside
-
-cast-rank : tie.Need-cast-rank Inv-loop μ-loop
-cast-rank c = omega (arith, c .shared-slice-known7 .given (c .before .rarest .result))
-
-frequency-requires : tie.Need-frequency-requires Inv-loop μ-loop
-frequency-requires c κs =
-    let st = c .before .before .before .before .before .before .before .before in
-    (st .pre .ready, all-at (λ (x : ℕ). x < st .args .shape .vocabulary) (st .args .phrase .now) 0 (c .before .rarest .result) (st .pre .below) (c .before .rarest .ensures .inside))
-
-below-requires : tie.Need-below-requires Inv-loop μ-loop
-below-requires c κs =
-    let st = c .before .before .before .before .before .before .before .before .before in
-    (st .pre .ready, all-at (λ (x : ℕ). x < st .args .shape .vocabulary) (st .args .phrase .now) 0 (c .before .before .rarest .result) (st .pre .below) (c .before .before .rarest .ensures .inside))
-
-loop-holds : tie.Need-loop-holds Inv-loop μ-loop
-loop-holds c =
+slice-aggregate-count-along : tie.Need-slice-aggregate-count-along
+slice-aggregate-count-along c =
     let st = c .before .before .before .before .before .before .before .before .before .before in
-    let t = textIn (st .args .s) (arrays (st .args .lengths .now) (st .args .bytes .now) (st .args .superblocks .now) (st .args .blocks .now)) in
-    let i = c .before .before .before .rarest .result in
-    let w = getD (st .args .phrase .now) i 0 in
-    let first = countOf w (take i t) in
-    let e : c .below .result ≡ first = c .below .ensures in (
-      omega arith,
-      omega (arith, c .before .frequency .ensures, count-take-whole w i t),
-      rw e (count-starts (stands t (st .args .phrase .now)) (candidate t w i) first),
-    )
+    sym (ap length (first-bytes-part (st .args .s) (st .args .words .now) _ _ (c .before .before .first-bytes .ensures)) ∙ first-bytes-length (st .args .s) (st .args .words .now))
 
-place-of-requires : tie.Need-place-of-requires Inv-loop μ-loop
-place-of-requires c κs =
-    let st = c .before .before .before .before .before .before .before .before .before .before .before .before in
-    (st .pre .ready, all-at (λ (x : ℕ). x < st .args .shape .vocabulary) (st .args .phrase .now) 0 (c .before .before .before .before .before .rarest .result) (st .pre .below) (c .before .before .before .before .before .rarest .ensures .inside), omega (arith, c .before .before .before .frequency .ensures))
+count-along-requires : tie.Need-count-along-requires
+count-along-requires c κs =
+    let st = c .before .before .before .before .before .before .before .before .before .before in
+    searching (st .args .words .now) _ _ (st .pre) (c .before .before .first-bytes .ensures)
 
-sub-stands-at : tie.Need-sub-stands-at Inv-loop μ-loop
-sub-stands-at c =
-    let st = c .before .before .before .before .before .before .before .before .before .before .before .before .before .before in
-    let t = textIn (st .args .s) (arrays (st .args .lengths .now) (st .args .bytes .now) (st .args .superblocks .now) (st .args .blocks .now)) in
-    let i = c .before .before .before .before .before .before .before .rarest .result in
-    let w = getD (st .args .phrase .now) i 0 in
-    let l = c .before .before .before .loop in
-    omega (arith, c .before .place-of .ensures, candidate-there t w i (l .j) (l .inv .0) (omega (arith, c .before .before .before .before .before .frequency .ensures)))
-
-stands-at-requires : tie.Need-stands-at-requires Inv-loop μ-loop
-stands-at-requires c κs =
-    let st = c .before .before .before .before .before .before .before .before .before .before .before .before .before .before in
-    let t = textIn (st .args .s) (arrays (st .args .lengths .now) (st .args .bytes .now) (st .args .superblocks .now) (st .args .blocks .now)) in
-    let i = c .before .before .before .before .before .before .before .rarest .result in
-    let w = getD (st .args .phrase .now) i 0 in
-    let l = c .before .before .before .loop in
-    (st .pre, omega (arith, c .before .place-of .ensures, candidate-inside t w i (l .j) (omega (arith, c .before .before .before .before .before .frequency .ensures))))
-
-add-count : tie.Need-add-count Inv-loop μ-loop
-add-count c =
-    let st = c .before .before .before .before .before .before .before .before .before .before .before .before .before .before .before .before in
-    let t = textIn (st .args .s) (arrays (st .args .lengths .now) (st .args .bytes .now) (st .args .superblocks .now) (st .args .blocks .now)) in
-    let i = c .before .before .before .before .before .before .before .before .before .rarest .result in
-    let w = getD (st .args .phrase .now) i 0 in
-    let l = c .before .before .before .before .before .loop in
-    let first = countOf w (take i t) in
-    omega (arith, l .inv .2, count-most (stands t (st .args .phrase .now)) (candidate t w i) first (l .j - first))
-
-add-j : tie.Need-add-j Inv-loop μ-loop
-add-j c = search needs
-
-loop-less : tie.Need-loop-less Inv-loop μ-loop
-loop-less c = search needs
-
-loop-again : tie.Need-loop-again Inv-loop μ-loop
-loop-again c =
-    let st = c .before .before .before .before .before .before .before .before .before .before .before .before .before .before .before .before in
-    let t = textIn (st .args .s) (arrays (st .args .lengths .now) (st .args .bytes .now) (st .args .superblocks .now) (st .args .blocks .now)) in
-    let i = c .before .before .before .before .before .before .before .before .before .rarest .result in
-    let w = getD (st .args .phrase .now) i 0 in
-    let l = c .before .before .before .before .before .loop in
-    let first = countOf w (take i t) in
-    let P = stands t (st .args .phrase .now) in
-    let test : P (candidate t w i (l .j)) ≡ c .before .stands-at .result =
-    ap (λ (q : ℕ). P (q - i)) (sym (c .before .before .before .place-of .ensures)) ∙ sym (c .before .stands-at .ensures) in (
-      omega arith,
-      omega arith,
-      ⊎-elim
-          (λ x. rw (x .1) (count-taken P (candidate t w i) first (l .j) (l .count) (l .inv .0) (l .inv .2) (test ∙ x .0 .taken)))
-          (λ x. rw (x .1) (count-passed P (candidate t w i) first (l .j) (l .count) (l .inv .0) (l .inv .2) (test ∙ x .0 .left)))
-          (c .if1 .came),
-    )
-
-returns : tie.Need-returns Inv-loop μ-loop
-returns c =
-    let st = c .before .before .before .before .before .before .before .before .before .before .before .before in
-    let t = textIn (st .args .s) (arrays (st .args .lengths .now) (st .args .bytes .now) (st .args .superblocks .now) (st .args .blocks .now)) in
-    let i = c .before .before .before .before .before .rarest .result in
-    let w = getD (st .args .phrase .now) i 0 in
-    let l = c .before .loop in
-    let first = countOf w (take i t) in
-    count-over (stands t (st .args .phrase .now)) (candidate t w i) first (l .j) (l .count) (l .inv .0) (l .inv .2) (countOf w t) (omega (arith, c .before .before .before .frequency .ensures))
-    ∙ sym (ap length (places-along t (st .args .phrase .now) i (c .before .before .before .before .before .rarest .ensures .inside)))
+returns : tie.Need-returns
+returns c = search needs
 
 pub count-phrase-spec : {M : Type 1} → statement M
 count-phrase-spec =
     tie.close
     (tie.spec
-    Inv-loop
-    μ-loop
-    rarest-requires
-    mul-rank
-    shared-slice-read-rank
-    cast-rank
-    frequency-requires
-    below-requires
-    loop-holds
-    place-of-requires
-    sub-stands-at
-    stands-at-requires
-    add-count
-    add-j
-    loop-less
-    loop-again
+    slice-aggregate-first-bytes
+    first-bytes-requires
+    array-share-prefix-table
+    slice-aggregate-count-along
+    count-along-requires
     returns)

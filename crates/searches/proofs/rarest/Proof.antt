@@ -1,4 +1,4 @@
--- `searches::rarest` meets its contract: no word met so far stands less often. Assumes nothing.
+-- `searches::rarest` meets its contract: no word passed stands less often. Assumes nothing.
 use Prim.Native.Nat.{ℕ, _-_, _≤_, _<_}
 use mathlib.Core.Logic.{⊎-elim}
 use mathlib.Core.Path.{_≡_}
@@ -13,21 +13,21 @@ use Rattle.searches.proofs.rarest.Statement.{statement}
 use Rattle.searches.proofs.rarest.Tie as tie
 
 abbrev Inv-loop : tie.InvT-loop
-Inv-loop s shape lengths bytes superblocks blocks starts phrase rare₀ least₀ i₀ rare least i = (i ≤ length phrase) × (rare < i) × (least ≡ countOf (getD phrase rare 0) (textIn s (arrays lengths bytes superblocks blocks))) × ((k : ℕ) → k < i → least ≤ countOf (getD phrase k 0) (textIn s (arrays lengths bytes superblocks blocks)))
+Inv-loop s shape lengths bytes superblocks blocks starts words rare₀ first least₀ i₀ rare least i = (i ≤ length words) × (rare < i) × (least ≡ countOf (getD words rare 0) (textIn s (arrays lengths bytes superblocks blocks))) × ((k : ℕ) → k < i → least ≤ countOf (getD words k 0) (textIn s (arrays lengths bytes superblocks blocks)))
 
 abbrev μ-loop : tie.MeasureT-loop
-μ-loop s shape lengths bytes superblocks blocks starts phrase rare₀ least₀ i₀ rare least i = length phrase - i
+μ-loop s shape lengths bytes superblocks blocks starts words rare₀ first least₀ i₀ rare least i = length words - i
 
-shared-slice-read-frequency : tie.Need-shared-slice-read-frequency Inv-loop μ-loop
-shared-slice-read-frequency c = c .before .before .before .before .before .before .before .pre .some
+shared-slice-read-first : tie.Need-shared-slice-read-first Inv-loop μ-loop
+shared-slice-read-first c = c .before .before .before .before .before .before .before .pre .some
 
-cast-frequency : tie.Need-cast-frequency Inv-loop μ-loop
-cast-frequency c = omega (arith, c .shared-slice-known7 .given 0)
+cast-first : tie.Need-cast-first Inv-loop μ-loop
+cast-first c = omega (arith, c .shared-slice-known7 .given 0)
 
 frequency-requires : tie.Need-frequency-requires Inv-loop μ-loop
 frequency-requires c κs =
     let st = c .before .before .before .before .before .before .before in
-    (st .pre .ready, all-at (λ (x : ℕ). x < st .args .shape .vocabulary) (st .args .phrase .now) 0 0 (st .pre .below) (st .pre .some))
+    (st .pre .ready, all-at (λ (x : ℕ). x < st .args .shape .vocabulary) (st .args .words .now) 0 0 (st .pre .below) (st .pre .some))
 
 loop-holds : tie.Need-loop-holds Inv-loop μ-loop
 loop-holds c =
@@ -39,19 +39,19 @@ loop-holds c =
       λ k h. let e : k ≡ 0 = omega arith in rw e (omega (arith, c .frequency .ensures)),
     )
 
-mul-frequency : tie.Need-mul-frequency Inv-loop μ-loop
-mul-frequency c = search needs
+mul-w : tie.Need-mul-w Inv-loop μ-loop
+mul-w c = search needs
 
-shared-slice-read-frequency-2 : tie.Need-shared-slice-read-frequency-2 Inv-loop μ-loop
-shared-slice-read-frequency-2 c = search needs
+shared-slice-read-w : tie.Need-shared-slice-read-w Inv-loop μ-loop
+shared-slice-read-w c = search needs
 
-cast-frequency-2 : tie.Need-cast-frequency-2 Inv-loop μ-loop
-cast-frequency-2 c = omega (arith, c .shared-slice-known8 .given (c .before .before .loop .i))
+cast-w : tie.Need-cast-w Inv-loop μ-loop
+cast-w c = omega (arith, c .shared-slice-known8 .given (c .before .before .loop .i))
 
 frequency-requires-2 : tie.Need-frequency-requires-2 Inv-loop μ-loop
 frequency-requires-2 c κs =
     let st = c .before .before .before .before .before .before .before .before .before .before .before in
-    (st .pre .ready, all-at (λ (x : ℕ). x < st .args .shape .vocabulary) (st .args .phrase .now) 0 (c .before .before .loop .i) (st .pre .below) (omega arith))
+    (st .pre .ready, all-at (λ (x : ℕ). x < st .args .shape .vocabulary) (st .args .words .now) 0 (c .before .before .loop .i) (st .pre .below) (omega arith))
 
 add-i : tie.Need-add-i Inv-loop μ-loop
 add-i c = search needs
@@ -64,7 +64,7 @@ loop-again c =
     let st = c .before .before .before .before .before .before .before .before .before .before .before .before .before in
     let t = textIn (st .args .s) (arrays (st .args .lengths .now) (st .args .bytes .now) (st .args .superblocks .now) (st .args .blocks .now)) in
     let l = c .before .before .before .before .loop in
-    let ws = st .args .phrase .now in
+    let ws = st .args .words .now in
     let often = c .before .frequency2 .ensures in (
       omega arith,
       ⊎-elim (λ x. omega arith) (λ x. omega arith) (c .if1 .came),
@@ -89,13 +89,13 @@ rarest-spec =
     (tie.spec
     Inv-loop
     μ-loop
-    shared-slice-read-frequency
-    cast-frequency
+    shared-slice-read-first
+    cast-first
     frequency-requires
     loop-holds
-    mul-frequency
-    shared-slice-read-frequency-2
-    cast-frequency-2
+    mul-w
+    shared-slice-read-w
+    cast-w
     frequency-requires-2
     add-i
     loop-less

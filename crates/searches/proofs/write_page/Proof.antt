@@ -1,274 +1,50 @@
--- `searches::write_page` meets its contract: the candidates from the next place on are tested in order, and each way out is the page.
--- Assumes nothing.
-use Rattle.base.proofs.Counts.{count-take-whole, count-most as often-most}
-use Rattle.pages.proofs.Counting.{count-most}
--- Assumes nothing.
--- Assumes nothing.
--- Assumes nothing.
-use mathlib.Core.Path.{_≡_, refl, sym, ap, _∙_}
-use Prim.Native.Nat.{ℕ, suc, _+_, _-_, _≤_, _<_}
+-- `searches::write_page` meets its contract: it hands on the first bytes of the words. Assumes nothing.
+use mathlib.Core.Path.{sym, ap, _∙_}
 use native.Mathlib.Omega.{arith}
 use borrow.Author.Needs.{needs}
-use mathlib.Core.Logic.{⊎-elim}
-use mathlib.Core.Bool.{Bool, true, false}
-use mathlib.Core.List.{List}
-use lib.ListN.{length, getD, take}
-use Rattle.index.specs.Arrays.{arrays, textIn}
-use Rattle.base.specs.Lists.{countOf, nth}
-use Rattle.base.specs.Answers.{front}
-use Rattle.base.specs.Texts.{maxWords}
-use Rattle.base.proofs.Lists.{all-at}
-use Rattle.phrases.specs.Phrases.{stands}
-use Rattle.phrases.specs.Anchors.{candidate}
-use Rattle.phrases.proofs.Anchors.{candidates-from, phrase-anchored}
-use Rattle.pages.specs.Pages
-use Rattle.pages.specs.Pages.{pageOver}
-use Rattle.pages.proofs.Along.{along}
-use Rattle.pages.proofs.Filling.{Filled, filled-length}
-use Rattle.pages.proofs.Searching.{Made, search-starts, search-taken, search-passed, search-full, search-over}
-use Rattle.searches.specs.declared.Written.{Written}
-use Rattle.searches.specs.Searching.{writtenOf}
-use Rattle.searches.proofs.Readied.{ready-some, ready-most}
-use Rattle.searches.proofs.Candidates.{candidate-there, candidate-later, candidate-inside}
+use lib.ListN.{length}
+use Rattle.base.proofs.Lists.{below-weaken}
+use Rattle.dense.specs.Code.{maxVocabulary}
+use Rattle.searches.proofs.FirstBytes.{first-bytes-length, first-bytes-part, searching}
 use Rattle.searches.proofs.write_page.Statement.{statement}
 use Rattle.searches.proofs.write_page.Tie as tie
-use Rattle.searches.proofs.write_page.Reads as reads
-use Rattle.searches.proofs.write_page.Lts as lts
-use Rattle.searches.proofs.below.Reads as below-reads
-use Rattle.searches.proofs.rarest.Reads as rarest-reads
-use Rattle.searches.proofs.stands_at.Reads as stands-at-reads
-use Rattle.words.proofs.frequency.Reads as frequency-reads
-use Rattle.words.proofs.place_of.Reads as place-of-reads
-use Rattle.words.proofs.text_length.Reads as text-length-reads
 
--- what is returned and what the slice holds, as the contract says it
-written-result : (p : Pages.Page) (entry slice : List ℕ) (count : ℕ) (more : Bool) (next : ℕ) (finished : Bool) → Made p entry slice count more next finished
-    → (_≡_ {A = Written} (record { count = count; more = more; next = next; finished = finished }) (writtenOf p)) × (slice ≡ front (p .found) entry)
-written-result p entry slice count more next finished m = (rw (m .valueIs, m .moreIs, m .nextIs, m .finishedIs), m .sliceIs)
+slice-aggregate-first-bytes : tie.Need-slice-aggregate-first-bytes
+slice-aggregate-first-bytes c = search needs
 
-abbrev Inv-loop : tie.InvT-loop
-Inv-loop s shape lengths bytes superblocks blocks starts phrase next lines₀ i rank stop count₀ last₀ j₀ lines count last j = ((countOf rank (take (next + i) (textIn s (arrays lengths bytes superblocks blocks)))) ≤ j) × (j ≤ stop) × (last ≤ maxWords) × Filled lines₀ (along (stands (textIn s (arrays lengths bytes superblocks blocks)) phrase) (candidate (textIn s (arrays lengths bytes superblocks blocks)) rank i) (countOf rank (take (next + i) (textIn s (arrays lengths bytes superblocks blocks)))) (j - (countOf rank (take (next + i) (textIn s (arrays lengths bytes superblocks blocks)))))) lines count last
+first-bytes-requires : tie.Need-first-bytes-requires
+first-bytes-requires c κs =
+    let st = c .before .before .before .before .before .before .before .before in
+    let p = st .pre .0 in
+    (p .ready .checked .closing, below-weaken (st .args .shape .vocabulary) (maxVocabulary (st .args .s)) (st .args .words .now) (p .ready .checked .limits .mostWords) (p .below), omega (arith, p .most))
 
-abbrev μ-loop : tie.MeasureT-loop
-μ-loop s shape lengths bytes superblocks blocks starts phrase next lines₀ i rank stop count₀ last₀ j₀ lines count last j = stop - j
+array-share-prefix-table : tie.Need-array-share-prefix-table
+array-share-prefix-table c = search needs
 
-rarest-requires : tie.Need-rarest-requires Inv-loop μ-loop
-rarest-requires c κs = c .before .before .before .before .before .before .before .pre .0
-
-mul-rank : tie.Need-mul-rank Inv-loop μ-loop
-mul-rank c = omega (arith, c .rarest .ensures .inside, c .before .before .before .before .before .before .before .before .pre .0 .most)
-
-shared-slice-read-rank : tie.Need-shared-slice-read-rank Inv-loop μ-loop
-shared-slice-read-rank c = c .before .rarest .ensures .inside
-
-cast-rank : tie.Need-cast-rank Inv-loop μ-loop
-cast-rank c = omega (arith, c .shared-slice-known7 .given (c .before .rarest .result))
-
-frequency-requires : tie.Need-frequency-requires Inv-loop μ-loop
-frequency-requires c κs =
-    let st = c .before .before .before .before .before .before .before .before .before in
-    (st .pre .0 .ready, all-at (λ (x : ℕ). x < st .args .shape .vocabulary) (st .args .phrase .now) 0 (c .before .rarest .result) (st .pre .0 .below) (c .before .rarest .ensures .inside))
-
-add-below : tie.Need-add-below Inv-loop μ-loop
-add-below c = omega (arith, c .before .before .before .before .before .before .before .before .before .before .pre .1, c .before .before .before .before .before .before .before .before .before .before .pre .0 .most, c .before .before .rarest .ensures .inside, ready-most (c .before .before .before .before .before .before .before .before .before .before .pre .0 .ready))
-
-below-requires : tie.Need-below-requires Inv-loop μ-loop
-below-requires c κs =
-    let st = c .before .before .before .before .before .before .before .before .before .before in
-    (st .pre .0 .ready, all-at (λ (x : ℕ). x < st .args .shape .vocabulary) (st .args .phrase .now) 0 (c .before .before .rarest .result) (st .pre .0 .below) (c .before .before .rarest .ensures .inside))
-
-loop-holds : tie.Need-loop-holds Inv-loop μ-loop
-loop-holds c =
+slice-aggregate-page-along : tie.Need-slice-aggregate-page-along
+slice-aggregate-page-along c =
     let st = c .before .before .before .before .before .before .before .before .before .before .before in
-    let t = textIn (st .args .s) (arrays (st .args .lengths .now) (st .args .bytes .now) (st .args .superblocks .now) (st .args .blocks .now)) in
-    let ws = st .args .phrase .now in
-    let i = c .before .before .before .rarest .result in
-    let w = getD ws i 0 in
-    let P = stands t ws in
-    let first = countOf w (take (st .args .next + i) t) in
-    let e : c .below .result ≡ first = c .below .ensures in (
-      omega arith,
-      omega (arith, c .before .frequency .ensures, count-take-whole w (st .args .next + i) t),
-      omega arith,
-      rw e (search-starts P (candidate t w i) first (st .args .lines .now)),
-    )
+    sym (ap length (first-bytes-part (st .args .s) (st .args .words .now) _ _ (c .before .before .first-bytes .ensures)) ∙ first-bytes-length (st .args .s) (st .args .words .now))
 
-place-of-requires : tie.Need-place-of-requires Inv-loop μ-loop
-place-of-requires c κs =
-    let st = c .before .before .before .before .before .before .before .before .before .before .before .before .before in
-    (st .pre .0 .ready, all-at (λ (x : ℕ). x < st .args .shape .vocabulary) (st .args .phrase .now) 0 (c .before .before .before .before .before .rarest .result) (st .pre .0 .below) (c .before .before .before .before .before .rarest .ensures .inside), omega (arith, c .before .before .before .frequency .ensures))
+page-along-requires : tie.Need-page-along-requires
+page-along-requires c κs =
+    let st = c .before .before .before .before .before .before .before .before .before .before .before .before in
+    (searching (st .args .words .now) _ _ (st .pre .0) (c .before .before .before .first-bytes .ensures), st .pre .1)
 
-sub-place : tie.Need-sub-place Inv-loop μ-loop
-sub-place c =
-    let st = c .before .before .before .before .before .before .before .before .before .before .before .before .before .before .before in
-    let t = textIn (st .args .s) (arrays (st .args .lengths .now) (st .args .bytes .now) (st .args .superblocks .now) (st .args .blocks .now)) in
-    let ws = st .args .phrase .now in
-    let i = c .before .before .before .before .before .before .before .rarest .result in
-    let w = getD ws i 0 in
-    let P = stands t ws in
-    let first = countOf w (take (st .args .next + i) t) in
-    let l = c .before .before .before .loop in
-    omega (arith, c .before .place-of .ensures, candidate-later t w i (l .j) (st .args .next) (l .inv .0) (omega (arith, c .before .before .before .before .before .frequency .ensures)))
+same-length : tie.Need-same-length
+same-length c = search needs
 
-stands-at-requires : tie.Need-stands-at-requires Inv-loop μ-loop
-stands-at-requires c κs =
-    let st = c .before .before .before .before .before .before .before .before .before .before .before .before .before .before .before in
-    let t = textIn (st .args .s) (arrays (st .args .lengths .now) (st .args .bytes .now) (st .args .superblocks .now) (st .args .blocks .now)) in
-    let ws = st .args .phrase .now in
-    let i = c .before .before .before .before .before .before .before .rarest .result in
-    let w = getD ws i 0 in
-    let P = stands t ws in
-    let first = countOf w (take (st .args .next + i) t) in
-    let l = c .before .before .before .loop in
-    (st .pre .0, omega (arith, c .before .place-of .ensures, candidate-inside t w i (l .j) (omega (arith, c .before .before .before .before .before .frequency .ensures))))
-
-add-t26 : tie.Need-add-t26 Inv-loop μ-loop
-add-t26 c = omega (arith, c .before .before .before .before .before .before .loop .inv .2)
-
-same-length : tie.Need-same-length Inv-loop μ-loop
-same-length c = filled-length _ _ _ _ _ (c .before .before .before .before .before .before .loop .inv .3)
-
-returns : tie.Need-returns Inv-loop μ-loop
-returns c =
-    let st = c .before .before .before .before .before .before .before .before .before .before .before .before .before .before .before .before .before .before in
-    let t = textIn (st .args .s) (arrays (st .args .lengths .now) (st .args .bytes .now) (st .args .superblocks .now) (st .args .blocks .now)) in
-    let ws = st .args .phrase .now in
-    let i = c .before .before .before .before .before .before .before .before .before .before .rarest .result in
-    let w = getD ws i 0 in
-    let P = stands t ws in
-    let first = countOf w (take (st .args .next + i) t) in
-    let l = c .before .before .before .before .before .before .loop in
-    let here : P (candidate t w i (l .j)) ≡ true =
-    ap (λ (q : ℕ). P (q - i)) (sym (c .before .before .before .before .place-of .ensures)) ∙ sym (c .before .before .stands-at .ensures) ∙ c .before .if1 .taken in
-    written-result (pageOver P (length t) (length (st .args .lines .now)) (st .args .next) false) (st .args .lines .now) (l .lines) (l .count) _ _ _
-    (search-full P (candidate t w i) first (l .j) (st .args .lines .now) (l .lines) (l .count) (l .last) (l .inv .0) (l .inv .3)
-    (countOf w t) (st .args .next) (length t) (candidates-from t w i P (phrase-anchored t ws i (c .before .before .before .before .before .before .before .before .before .before .rarest .ensures .inside)) (st .args .next))
-    (omega (arith, c .before .before .before .before .before .before .before .before .frequency .ensures)) here (c .if2 .taken))
-
-cast-lines : tie.Need-cast-lines Inv-loop μ-loop
-cast-lines c =
-    let st = c .before .before .before .before .before .before .before .before .before .before .before .before .before .before .before .before .before .before in
-    let t = textIn (st .args .s) (arrays (st .args .lengths .now) (st .args .bytes .now) (st .args .superblocks .now) (st .args .blocks .now)) in
-    let ws = st .args .phrase .now in
-    let i = c .before .before .before .before .before .before .before .before .before .before .rarest .result in
-    let w = getD ws i 0 in
-    let P = stands t ws in
-    let first = countOf w (take (st .args .next + i) t) in
-    let l = c .before .before .before .before .before .before .loop in
-    omega (arith, c .before .before .before .before .place-of .ensures, ready-most (st .pre .0 .ready), candidate-inside t w i (l .j) (omega (arith, c .before .before .before .before .before .before .before .before .frequency .ensures)))
-
-mul-lines : tie.Need-mul-lines Inv-loop μ-loop
-mul-lines c =
-    let st = c .before .before .before .before .before .before .before .before .before .before .before .before .before .before .before .before .before .before in
-    let t = textIn (st .args .s) (arrays (st .args .lengths .now) (st .args .bytes .now) (st .args .superblocks .now) (st .args .blocks .now)) in
-    let ws = st .args .phrase .now in
-    let i = c .before .before .before .before .before .before .before .before .before .before .rarest .result in
-    let w = getD ws i 0 in
-    let P = stands t ws in
-    let first = countOf w (take (st .args .next + i) t) in
-    let l = c .before .before .before .before .before .before .loop in
-    omega (arith, l .inv .3 .valueIs, count-most P (candidate t w i) first (l .j - first), often-most w t, c .before .before .before .before .before .before .before .before .frequency .ensures, ready-most (st .pre .0 .ready))
-
-slice-write-lines : tie.Need-slice-write-lines Inv-loop μ-loop
-slice-write-lines c =
-    let l = c .before .before .before .before .before .before .loop in
-    omega (arith, filled-length _ _ _ _ _ (l .inv .3), l .inv .3 .fits, c .if2 .left)
-
-add-count : tie.Need-add-count Inv-loop μ-loop
-add-count c =
-    let st = c .before .before .before .before .before .before .before .before .before .before .before .before .before .before .before .before .before .before in
-    let t = textIn (st .args .s) (arrays (st .args .lengths .now) (st .args .bytes .now) (st .args .superblocks .now) (st .args .blocks .now)) in
-    let ws = st .args .phrase .now in
-    let i = c .before .before .before .before .before .before .before .before .before .before .rarest .result in
-    let w = getD ws i 0 in
-    let P = stands t ws in
-    let first = countOf w (take (st .args .next + i) t) in
-    let l = c .before .before .before .before .before .before .loop in
-    omega (arith, l .inv .3 .valueIs, count-most P (candidate t w i) first (l .j - first), often-most w t, c .before .before .before .before .before .before .before .before .frequency .ensures, ready-most (st .pre .0 .ready))
-
-add-j : tie.Need-add-j Inv-loop μ-loop
-add-j c = search needs
-
-loop-less : tie.Need-loop-less Inv-loop μ-loop
-loop-less c = search needs
-
-loop-again : tie.Need-loop-again Inv-loop μ-loop
-loop-again c =
-    let st = c .before .before .before .before .before .before .before .before .before .before .before .before .before .before .before .before .before in
-    let t = textIn (st .args .s) (arrays (st .args .lengths .now) (st .args .bytes .now) (st .args .superblocks .now) (st .args .blocks .now)) in
-    let ws = st .args .phrase .now in
-    let i = c .before .before .before .before .before .before .before .before .before .rarest .result in
-    let w = getD ws i 0 in
-    let P = stands t ws in
-    let first = countOf w (take (st .args .next + i) t) in
-    let l = c .before .before .before .before .before .loop in
-    let e = c .before .before .before .place-of .ensures in
-    let m : candidate t w i (l .j) ≤ maxWords = omega (arith, ready-most (st .pre .0 .ready), candidate-inside t w i (l .j) (omega (arith, c .before .before .before .before .before .before .before .frequency .ensures))) in
-    let test : P (candidate t w i (l .j)) ≡ c .before .stands-at .result =
-    ap (λ (q : ℕ). P (q - i)) (sym e) ∙ sym (c .before .stands-at .ensures) in (
-      omega arith,
-      omega arith,
-      ⊎-elim (λ x. omega (arith, e, m)) (λ x. omega arith) (c .if1 .came),
-      ⊎-elim
-          (λ x. rw (x .2, x .3, x .4, e)
-          (search-taken P (candidate t w i) first (l .j) (st .args .lines .now) (l .lines) (l .count) (l .last) (l .inv .0) (l .inv .3)
-          (test ∙ x .0 .taken) (omega (arith, filled-length _ _ _ _ _ (l .inv .3), l .inv .3 .fits, x .1 .left))))
-          (λ x. rw (x .1, x .2, x .3)
-          (search-passed P (candidate t w i) first (l .j) (st .args .lines .now) (l .lines) (l .count) (l .last) (l .inv .0) (l .inv .3)
-          (test ∙ x .0 .left)))
-          (c .if1 .came),
-    )
-
-text-length-requires : tie.Need-text-length-requires Inv-loop μ-loop
-text-length-requires c κs = ready-some (c .before .before .before .before .before .before .before .before .before .before .before .before .before .pre .0 .ready)
-
-same-length-2 : tie.Need-same-length-2 Inv-loop μ-loop
-same-length-2 c = filled-length _ _ _ _ _ (c .before .before .loop .inv .3)
-
-returns-2 : tie.Need-returns-2 Inv-loop μ-loop
-returns-2 c =
-    let st = c .before .before .before .before .before .before .before .before .before .before .before .before .before .before in
-    let t = textIn (st .args .s) (arrays (st .args .lengths .now) (st .args .bytes .now) (st .args .superblocks .now) (st .args .blocks .now)) in
-    let ws = st .args .phrase .now in
-    let i = c .before .before .before .before .before .before .rarest .result in
-    let w = getD ws i 0 in
-    let P = stands t ws in
-    let first = countOf w (take (st .args .next + i) t) in
-    let l = c .before .before .loop in
-    let n : c .text-length .result ≡ length t = c .text-length .ensures .1 _ _ _ _ _ (st .pre .0 .ready .checked) in
-    rw n
-    (written-result (pageOver P (length t) (length (st .args .lines .now)) (st .args .next) false) (st .args .lines .now) (l .lines) (l .count) _ _ _
-    (search-over P (candidate t w i) first (l .j) (st .args .lines .now) (l .lines) (l .count) (l .last) (l .inv .0) (l .inv .3)
-    (countOf w t) (st .args .next) (length t) (candidates-from t w i P (phrase-anchored t ws i (c .before .before .before .before .before .before .rarest .ensures .inside)) (st .args .next))
-    (omega (arith, c .before .before .before .before .frequency .ensures))))
+returns : tie.Need-returns
+returns c = search needs
 
 pub write-page-spec : {M : Type 1} → statement M
 write-page-spec =
     tie.close
     (tie.spec
-    Inv-loop
-    μ-loop
-    rarest-requires
-    mul-rank
-    shared-slice-read-rank
-    cast-rank
-    frequency-requires
-    add-below
-    below-requires
-    loop-holds
-    place-of-requires
-    sub-place
-    stands-at-requires
-    add-t26
+    slice-aggregate-first-bytes
+    first-bytes-requires
+    array-share-prefix-table
+    slice-aggregate-page-along
+    page-along-requires
     same-length
-    returns
-    cast-lines
-    mul-lines
-    slice-write-lines
-    add-count
-    add-j
-    loop-less
-    loop-again
-    text-length-requires
-    same-length-2
-    returns-2)
+    returns)

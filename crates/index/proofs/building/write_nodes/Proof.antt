@@ -28,7 +28,7 @@ write-words-requires c κs = let start = c .before .before .before .before .befo
     let ls = c .before .before .before .before .before .before .before .before .before .count-nodes .last .1 .1 .0 in
     let e = c .before .before .before .before .before .before .before .before .before .count-nodes .ensures in
     let fit = lengths-fit (start .args .s) (start .args .text .now) ls (start .args .lengths .now) (start .pre .0) e in
-    (rw (fit .0) (start .pre .0), parted (start .args .s) (start .args .text .now) ls (start .args .lengths .now) _ (start .args .bytes .now) e (omega (arith, fit .1)) (c .before .before .before .before .node-starts .ensures) (start .pre .1))
+    (rw (fit .0) (start .pre .0), parted (start .args .s) (start .args .text .now) ls (start .args .lengths .now) _ (start .args .bytes .now) e (c .before .before .before .before .node-starts .ensures) (start .pre .1))
 
 same-length : tie.Need-same-length
 same-length c = search needs

@@ -8,7 +8,7 @@ use Rattle.base.proofs.Lists.{all-at}
 use Rattle.dense.specs.Code.{maxVocabulary}
 use Rattle.dense.proofs.Words.{encoded-length}
 use Rattle.index.specs.Filling.{Counted, Stands}
-use Rattle.index.proofs.Filling.{nodeAt, held, word, encoded-byte, held-none, held-all, counted-same, stands-same, node-next, counted-next, stands-next, next-inside, next-most, next-place}
+use Rattle.index.proofs.Filling.{lengths-number, nodeAt, held, word, encoded-byte, held-none, held-all, counted-same, stands-same, node-next, counted-next, stands-next, next-inside, next-most, next-place}
 use Rattle.index.proofs.building.write_word.Statement.{statement}
 use Rattle.index.proofs.building.write_word.Tie as tie
 
@@ -70,7 +70,7 @@ write-byte-requires c κs = let start = c .before .before .before .before .befor
     let l = c .before .before .before .loop in
     let n = length (a .lengths .now) in
     let m = more (c .before .before) in (
-      omega (arith, inside (c .before .before), start .pre .0 .1 .table),
+      omega (arith, inside (c .before .before), start .pre .0 .1 .begin .room, lengths-number (a .s) n (a .text .now)),
       omega (arith, inside (c .before .before), l .inv .2),
       next-most (a .s) (a .text .now) (a .place) (l .i) m (l .node) (l .inv .1) n (start .pre .0 .0) (start .pre .0 .2) (l .lengths) (l .inv .2) (l .inv .4),
       next-place (a .s) (a .text .now) (a .place) (l .i) m (l .node) (l .inv .1) n (start .pre .0 .0) (start .pre .0 .2) (a .starts .now) (l .lengths) (l .bytes) (start .pre .0 .1 .begin) (omega (arith, start .pre .0 .1 .whole, l .inv .3)) (l .inv .2) (l .inv .4),

@@ -36,7 +36,7 @@ write-word-requires c κs = let start = c .before .before .before .before .befor
     let n : length (l .lengths) ≡ length (start .args .lengths .now) = as-long (c .before .before .before) in (
       (
         rw n (start .pre .0),
-        rw n record { table = start .pre .1 .table; begin = start .pre .1 .begin; whole = start .pre .1 .whole ∙ sym (l .inv .2) },
+        rw n record { begin = start .pre .1 .begin; whole = start .pre .1 .whole ∙ sym (l .inv .2) },
         c .before .before .loop-test .taken,
       ),
       (l .inv .3, l .inv .4),

@@ -1,4 +1,4 @@
--- `lexicon::count_closed` meets its contract. The loop's invariant: the closing bytes passed are counted. Assumes nothing.
+-- `lexicon::list_size` meets its contract. The loop's invariant: the closing bytes passed are counted. Assumes nothing.
 use Prim.Native.Nat.{ℕ, _-_, _≤_, _<_}
 use mathlib.Core.Path.{_≡_, refl, ap, _∙_}
 use mathlib.Core.Logic.{⊎-elim}
@@ -9,13 +9,13 @@ use lib.ListN.{length, take}
 use lib.Seq.{take-all}
 use Rattle.base.proofs.Counts.{count-hit, count-miss}
 use Rattle.base.specs.Lists.{countOf}
-use Rattle.lexicon.specs.Letters.{closingByte}
+use Rattle.lexicon.specs.Letters.{lineFeed}
 use Rattle.lexicon.specs.Lexicon.{listSize}
-use Rattle.lexicon.proofs.count_closed.Statement.{statement}
-use Rattle.lexicon.proofs.count_closed.Tie as tie
+use Rattle.lexicon.proofs.list_size.Statement.{statement}
+use Rattle.lexicon.proofs.list_size.Tie as tie
 
 abbrev Inv-loop : tie.InvT-loop
-Inv-loop list words₀ at₀ words at = (at ≤ length list) × (words ≤ at) × (words ≡ countOf closingByte (take at list))
+Inv-loop list words₀ at₀ words at = (at ≤ length list) × (words ≤ at) × (words ≡ countOf lineFeed (take at list))
 
 abbrev μ-loop : tie.MeasureT-loop
 μ-loop list words₀ at₀ words at = length list - at
@@ -40,16 +40,16 @@ loop-again c = let start = c .before .before .before .before in
     let loop = c .before .before .before .loop in
     let h : loop .at < length (start .args .list .now) = c .before .before .loop-test .taken in
     ⊎-elim
-    (λ w. (omega arith, omega arith, omega (arith, add-one (loop .at), ap (λ (n : ℕ). countOf closingByte (take n (start .args .list .now))) (add-one (loop .at)), count-hit closingByte (start .args .list .now) (loop .at) h (w .0 .taken), w .1, loop .inv .2)))
-    (λ w. (omega arith, omega arith, omega (arith, add-one (loop .at), ap (λ (n : ℕ). countOf closingByte (take n (start .args .list .now))) (add-one (loop .at)), count-miss closingByte (start .args .list .now) (loop .at) h (w .0 .left), w .1, loop .inv .2)))
+    (λ w. (omega arith, omega arith, omega (arith, add-one (loop .at), ap (λ (n : ℕ). countOf lineFeed (take n (start .args .list .now))) (add-one (loop .at)), count-hit lineFeed (start .args .list .now) (loop .at) h (w .0 .taken), w .1, loop .inv .2)))
+    (λ w. (omega arith, omega arith, omega (arith, add-one (loop .at), ap (λ (n : ℕ). countOf lineFeed (take n (start .args .list .now))) (add-one (loop .at)), count-miss lineFeed (start .args .list .now) (loop .at) h (w .0 .left), w .1, loop .inv .2)))
     (c .if1 .came)
 
 returns : tie.Need-returns Inv-loop μ-loop
 unfolding listSize
-returns c = c .before .loop .inv .2 ∙ ap (countOf closingByte) (take-all (c .before .loop .at) (c .before .before .args .list .now) (c .loop-test .left))
+returns c = c .before .loop .inv .2 ∙ ap (countOf lineFeed) (take-all (c .before .loop .at) (c .before .before .args .list .now) (c .loop-test .left))
 
-pub count-closed-spec : {M : Type 1} → statement M
-count-closed-spec =
+pub list-size-spec : {M : Type 1} → statement M
+list-size-spec =
     tie.close
     (tie.spec
     Inv-loop

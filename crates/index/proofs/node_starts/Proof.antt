@@ -1,4 +1,4 @@
--- `words::node_starts` meets its contract: each start is the one before it and that node's length. Assumes nothing.
+-- `index::node_starts` meets its contract: each start is the one before it and that node's length. Assumes nothing.
 use Prim.Native.Nat.{ℕ, _+_, _-_, _≤_, _<_}
 use mathlib.Core.Path.{_≡_, ap, _∙_}
 use mathlib.Core.List.{List}
@@ -10,8 +10,8 @@ use lib.ListN.{length, take, getD, length-set}
 use Rattle.base.specs.Lists.{total}
 use Rattle.base.proofs.Sums.{total-take-suc, total-take-whole}
 use Rattle.base.proofs.Fronts.{set-below}
-use Rattle.words.proofs.node_starts.Statement.{statement}
-use Rattle.words.proofs.node_starts.Tie as tie
+use Rattle.index.proofs.node_starts.Statement.{statement}
+use Rattle.index.proofs.node_starts.Tie as tie
 
 -- the start is the sum of the lengths before the node, and each start before it is written
 abbrev Inv-loop : tie.InvT-loop
