@@ -1,0 +1,211 @@
+/*
+ * The concordance index over End-Tagged Dense Code: the entries of the archive libconcordance.a, for C and C++.
+ *
+ * Words. A text is a sequence of n words, each given as its rank, 0 to V - 1, where V is the size of the vocabulary: V is 1 to 2,113,664,
+ * n is 0 to 16,777,216. Places in the text count from 0. B is the block length, b the number of blocks of a superblock, S = B * b. L is the
+ * number of bytes of the text's stream. The index of a text is four arrays: `lengths`, the length of each node of the byte tree; `bytes`,
+ * the L bytes of the nodes; `superblocks` and `blocks`, the counters of these bytes.
+ *
+ * Sizes. An index has N = V / 128 nodes, rounded up; L is at most 3 * n. The arrays have N, L, 256 * (L / S + 1) and 256 * (L / B + 1)
+ * elements (whole division).
+ *
+ * Slices. Each pointer is followed by the number of its elements, any number. It is not null and aligned for its element, also where the
+ * number is 0, and the elements are initialized. A slice that is written (no `const`) overlaps no other slice of the call.
+ *
+ * Answers. An accepted call returns the refusal 0 and its value. A call that is turned down returns the number of its refusal, with the
+ * value that the table below gives, and writes nothing: all lent memory stays as it was. Where several refusals apply, the lowest number is
+ * returned, but what is worked out from the arrays of a lent index is tried only after 6. The refusals of each call are listed at it in the
+ * order in which they are tried. No call keeps a pointer, and equal arguments have equal answers.
+ */
+#ifndef CONCORDANCE_H
+#define CONCORDANCE_H
+
+#include <stdbool.h>
+#include <stddef.h>
+#include <stdint.h>
+
+#ifdef __cplusplus
+extern "C" {
+#endif
+
+/* The refusals. The value that is returned with each is 0, save with 4 (the first such place) and 14 (the word's byte offset). */
+enum {
+    CONCORDANCE_ACCEPTED = 0,
+    /* V outside its limits; for a word list, V is its number of 0A bytes */
+    CONCORDANCE_REFUSED_VOCABULARY = 1,
+    /* a text, stream or plain text of more than 16,777,216 words; in a stream, bytes 80 to FF are counted */
+    CONCORDANCE_REFUSED_WORDS = 2,
+    /* B or b is 0, or S above 65,535 */
+    CONCORDANCE_REFUSED_BLOCKS = 3,
+    /* a rank of the text to index or code is not below V; the first such place is returned with it */
+    CONCORDANCE_REFUSED_TEXT_RANK = 4,
+    /* a slice to be built or filled by indexing, stream work or reading is shorter than needed */
+    CONCORDANCE_REFUSED_SHORT_SLICE = 5,
+    /* the check does not pass */
+    CONCORDANCE_REFUSED_INDEX = 6,
+    /* kind outside 1 to 5 */
+    CONCORDANCE_REFUSED_KIND = 7,
+    /* phrase length outside 1 to 16, or part outside the lent words */
+    CONCORDANCE_REFUSED_PHRASE = 8,
+    /* a rank asked about is not below V */
+    CONCORDANCE_REFUSED_ASKED_RANK = 9,
+    /* offset outside -16 to 16 */
+    CONCORDANCE_REFUSED_OFFSET = 10,
+    /* place or ordinal outside its range; a listing's next place above n */
+    CONCORDANCE_REFUSED_PLACE = 11,
+    /* page of length 0, or answer slice shorter than two per question */
+    CONCORDANCE_REFUSED_PAGE = 12,
+    /* the word list breaks a rule */
+    CONCORDANCE_REFUSED_WORD_LIST = 13,
+    /* first word of the text not in the list; its byte offset is returned with it */
+    CONCORDANCE_REFUSED_UNLISTED = 14,
+    /* a codeword of over three bytes, or a stream that ends inside one */
+    CONCORDANCE_REFUSED_STREAM = 15
+};
+
+/* The limits. */
+enum {
+    CONCORDANCE_MAX_VOCABULARY = 2113664,
+    CONCORDANCE_MAX_WORDS = 16777216,
+    CONCORDANCE_MAX_SUPERBLOCK = 65535,
+    CONCORDANCE_MAX_PHRASE = 16,
+    CONCORDANCE_MAX_OFFSET = 16
+};
+
+/* The answer of a call: 0 and its value, or a refusal's number and what is returned with it. */
+typedef struct {
+    uint32_t refusal;
+    size_t value;
+} concordance_answer;
+
+/* V, B and b. */
+typedef struct {
+    size_t vocabulary;
+    size_t block;
+    size_t per_superblock;
+} concordance_shape;
+
+/*
+ * A question, by its kind; the fields that a kind does not use never matter.
+ *   1  the rank at place p, p < n
+ *   2  how often w stands at places below p, p <= n
+ *   3  the place of the p-th w, p from 1 up to the number there are
+ *   4  the number of places q with w at q and v at q + d, where q + d is inside the text; d from -16 to 16, negative to the left
+ *   5  how often the phrase stands that is the part (start, length) of the lent words, 1 to 16 of them; hits may overlap
+ */
+typedef struct {
+    uint32_t kind;
+    uint32_t w;
+    uint32_t v;
+    int32_t d;
+    size_t p;
+    size_t start;
+    size_t length;
+} concordance_question;
+
+/* The state of a listing: the next place, and whether it is finished. */
+typedef struct {
+    size_t next;
+    bool finished;
+} concordance_listing;
+
+/* What a page returns: its answer, whether more hits follow, and the state for the next page. */
+typedef struct {
+    concordance_answer answer;
+    bool more;
+    concordance_listing listing;
+} concordance_page;
+
+/*
+ * Writes a text as a stream: the codewords of its ranks, one after another, in front of `stream`. The elements past them stay.
+ * Returns: the number of bytes written.
+ * Refusals: 1; 2 for a text of too many words; 4 with the first place whose rank is not below V; 5 if `stream` is too short.
+ */
+concordance_answer concordance_write_stream(size_t vocabulary, const uint32_t *text, size_t text_len, uint8_t *stream, size_t stream_len);
+
+/*
+ * Reads a stream: writes the ranks of its codewords in front of `text`. The elements past them stay.
+ * Returns: the number of words written.
+ * Refusals: 2 and 5, where each byte 80 to FF counts for a word and needs an element, in a broken stream too; then 15 for a broken stream.
+ */
+concordance_answer concordance_read_stream(const uint8_t *stream, size_t stream_len, uint32_t *text, size_t text_len);
+
+/*
+ * Builds the index of a text in front of the four slices. The elements past it stay in each.
+ * Returns: L, the number of node bytes.
+ * Refusals: 1; 2 for a text of too many words; 3; 4 with the first place whose rank is not below V; 5 if one of the slices is too short.
+ */
+concordance_answer concordance_build(concordance_shape shape, const uint32_t *text, size_t text_len,
+                                     uint32_t *lengths, size_t lengths_len, uint8_t *bytes, size_t bytes_len,
+                                     uint32_t *superblocks, size_t superblocks_len, uint16_t *blocks, size_t blocks_len);
+
+/*
+ * Checks an index: it passes exactly if some text with ranks below V has the four arrays as its index, none of them longer or shorter.
+ * Writes nothing. Returns: 0.
+ * Refusals: 1; 3; 6 if it does not pass.
+ */
+concordance_answer concordance_check(concordance_shape shape, const uint32_t *lengths, size_t lengths_len, const uint8_t *bytes, size_t bytes_len,
+                                     const uint32_t *superblocks, size_t superblocks_len, const uint16_t *blocks, size_t blocks_len);
+
+/*
+ * Asks one question of an index; `words` are the lent words of which kind 5 takes its phrase. Writes nothing.
+ * Returns: the answer by the question's kind.
+ * Refusals: 1; 3; 6; 7 for the kind; then of kind 1: 11; of kinds 2 and 3: 9, 11; of kind 4: 9, 10; of kind 5: 8, 9.
+ */
+concordance_answer concordance_ask(concordance_shape shape, const uint32_t *lengths, size_t lengths_len, const uint8_t *bytes, size_t bytes_len,
+                                   const uint32_t *superblocks, size_t superblocks_len, const uint16_t *blocks, size_t blocks_len,
+                                   const uint32_t *words, size_t words_len, concordance_question question);
+
+/*
+ * Answers a sheet of questions of an index, each as concordance_ask answers it; the check is made once. Writes a pair for each question in
+ * front of `answers`, in order: question i has its refusal, or 0, at 2 * i and its value at 2 * i + 1. The elements past the pairs stay.
+ * Refusals 7 to 11 go into the question's own pair, with the value 0, and do not turn down the sheet.
+ * Returns: twice the number of questions. An empty sheet is accepted, writes nothing and returns 0.
+ * Refusals: 1; 3; 6; 12 if `answers` is shorter than two elements for each question.
+ */
+concordance_answer concordance_answer_sheet(concordance_shape shape, const uint32_t *lengths, size_t lengths_len, const uint8_t *bytes, size_t bytes_len,
+                                            const uint32_t *superblocks, size_t superblocks_len, const uint16_t *blocks, size_t blocks_len,
+                                            const uint32_t *words, size_t words_len, const concordance_question *questions, size_t questions_len,
+                                            uint32_t *answers, size_t answers_len);
+
+/*
+ * Fills the whole of `passage` with the ranks from `place` on, the last of which must lie in the text.
+ * Returns: passage_len. An empty passage is filled for any place up to n.
+ * Refusals: 1; 3; 6; 11 if place + passage_len is above n.
+ */
+concordance_answer concordance_passage(concordance_shape shape, const uint32_t *lengths, size_t lengths_len, const uint8_t *bytes, size_t bytes_len,
+                                       const uint32_t *superblocks, size_t superblocks_len, const uint16_t *blocks, size_t blocks_len,
+                                       size_t place, uint32_t *passage, size_t passage_len);
+
+/* Opens a listing. Returns: next 0, not finished. It refuses nothing. */
+concordance_listing concordance_open(void);
+
+/*
+ * The next page of the listing of a phrase, which is the part (start, length) of the lent words: writes the places at or after
+ * listing.next where it stands, ascending, in front of `lines`, until the slice is full or there are no more. The elements past them stay.
+ * Returns: `answer`, the number of places written; `more`, whether the slice is full and another place follows; `listing`, the state for
+ * the next page: if more follow, next is the last place written plus 1, and otherwise it is finished with next n. A finished state writes
+ * nothing, returns 0 and not more, and comes back the same.
+ * Refusals: 1; 3; 6; 8 and 9 for the phrase; 11 if listing.next is above n, finished or not; 12 if `lines` is empty. Each returns not more
+ * and the state that was given.
+ */
+concordance_page concordance_list(concordance_listing listing, concordance_shape shape, const uint32_t *lengths, size_t lengths_len,
+                                  const uint8_t *bytes, size_t bytes_len, const uint32_t *superblocks, size_t superblocks_len,
+                                  const uint16_t *blocks, size_t blocks_len, const uint32_t *words, size_t words_len, size_t start, size_t length,
+                                  uint32_t *lines, size_t lines_len);
+
+/*
+ * Reads plain text of ISO 8859-1 through a word list: writes the rank of each word in front of `ranks`. The elements past them stay.
+ * A word is a longest run of letters and digits, its capitals made small. The list gives the words in rank order, each closed by 0A.
+ * Returns: the number of words of the text.
+ * Refusals: 1 for the number of 0A bytes of the list; 2 and 5 for the number of words of the text, listed or not; 13 if a word of the list
+ * is empty, stands there twice, is not closed, or has a byte that the letter table does not keep; 14 with the byte offset of the first word
+ * of the text that is not in the list.
+ */
+concordance_answer concordance_read_text(const uint8_t *list, size_t list_len, const uint8_t *text, size_t text_len, uint32_t *ranks, size_t ranks_len);
+
+#ifdef __cplusplus
+}
+#endif
+
+#endif

@@ -1,0 +1,99 @@
+//! The refusals of the engine's table.
+use crate::ffi::Answer;
+use std::fmt;
+
+/// A row of the table of refusals.
+#[derive(Clone, Copy, Debug, PartialEq, Eq)]
+pub enum Refusal {
+    Vocabulary = 1,
+    Words = 2,
+    Blocks = 3,
+    TextRank = 4,
+    ShortSlice = 5,
+    Index = 6,
+    Kind = 7,
+    Phrase = 8,
+    AskedRank = 9,
+    Offset = 10,
+    Place = 11,
+    Page = 12,
+    WordList = 13,
+    Unlisted = 14,
+    Stream = 15,
+}
+
+impl Refusal {
+    const ALL: [Refusal; 15] = [
+        Refusal::Vocabulary,
+        Refusal::Words,
+        Refusal::Blocks,
+        Refusal::TextRank,
+        Refusal::ShortSlice,
+        Refusal::Index,
+        Refusal::Kind,
+        Refusal::Phrase,
+        Refusal::AskedRank,
+        Refusal::Offset,
+        Refusal::Place,
+        Refusal::Page,
+        Refusal::WordList,
+        Refusal::Unlisted,
+        Refusal::Stream,
+    ];
+
+    /// The row with a number of the table; none for 0 and for a number that the table lacks.
+    pub fn from_number(number: u32) -> Option<Refusal> {
+        Refusal::ALL.into_iter().find(|row| row.number() == number)
+    }
+
+    /// The number of the row.
+    pub fn number(self) -> u32 {
+        self as u32
+    }
+
+    /// When the refusal is given, in the table's words.
+    pub fn words(self) -> &'static str {
+        match self {
+            Refusal::Vocabulary => "V outside its limits; for a list, V is its number of 0A bytes",
+            Refusal::Words => "a text, stream or plain text of more than 16,777,216 words",
+            Refusal::Blocks => "B or b is 0, or S above 65,535",
+            Refusal::TextRank => "a rank of the text to index or code is not below V",
+            Refusal::ShortSlice => "a slice to be built or filled is shorter than needed",
+            Refusal::Index => "the check does not pass",
+            Refusal::Kind => "kind outside 1 to 5",
+            Refusal::Phrase => "phrase length outside 1 to 16, or part outside the lent words",
+            Refusal::AskedRank => "a rank asked about is not below V",
+            Refusal::Offset => "offset outside -16 to 16",
+            Refusal::Place => "place or ordinal outside its range; a listing's next place above n",
+            Refusal::Page => "page of length 0, or answer slice shorter than two per question",
+            Refusal::WordList => "word list breaks a rule",
+            Refusal::Unlisted => "first word of the text not in the list",
+            Refusal::Stream => "a codeword of over three bytes, or a stream that ends inside one",
+        }
+    }
+}
+
+/// A call that was turned down: the row of the table, and the value that is returned with it.
+#[derive(Clone, Copy, Debug, PartialEq, Eq)]
+pub struct Refused {
+    pub refusal: Refusal,
+    pub value: usize,
+}
+
+impl fmt::Display for Refused {
+    fn fmt(&self, out: &mut fmt::Formatter<'_>) -> fmt::Result {
+        write!(out, "refused {} with {}: {}", self.refusal.number(), self.value, self.refusal.words())
+    }
+}
+
+impl std::error::Error for Refused {}
+
+impl Answer {
+    /// The value of an accepted call, or its refusal.
+    pub fn result(self) -> Result<usize, Refused> {
+        match Refusal::from_number(self.refusal) {
+            Some(refusal) => Err(Refused { refusal, value: self.value }),
+            None => Ok(self.value),
+        }
+    }
+}

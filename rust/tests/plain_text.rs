@@ -1,0 +1,43 @@
+//! Reading plain text through a word list, against the reference.
+mod support;
+use support::random::Random;
+use support::{calls, inputs, reference};
+
+#[test]
+fn read_text() {
+    let mut random = Random::of("read_text");
+    let mut refusals = [0usize; 16];
+    for _ in 0..30_000 {
+        let text = inputs::plain_text(&mut random);
+        let list = inputs::word_list(&mut random, &text);
+        let words = reference::words_of(&text).len();
+        let room = (words + random.below(3)).saturating_sub(random.one_of(&[0, 0, 0, 0, 1]));
+        let mut ours = vec![88; room];
+        let mut theirs = ours.clone();
+        let answer = calls::read_text(&list, &text, &mut ours);
+        assert_eq!(answer, reference::read_text(&list, &text, &mut theirs), "{list:02X?}, {text:02X?}");
+        assert_eq!(ours, theirs, "{list:02X?}, {text:02X?}");
+        refusals[answer.refusal as usize] += 1;
+    }
+    let met = |number: usize| refusals[number] > 50;
+    assert!([0, 1, 5, 13, 14].into_iter().all(met), "{refusals:?}");
+}
+
+/// Each byte alone, between two letters, and in a list.
+#[test]
+fn each_byte() {
+    for byte in 0..=255u8 {
+        for (list, text) in [
+            (vec![b'a', b'\n', reference::letter(byte), b'\n'], vec![byte]),
+            (b"a\nb\nab\n".to_vec(), vec![b'a', byte, b'b']),
+            (vec![byte, b'\n'], b"a".to_vec()),
+            (vec![b'a', byte, b'\n'], vec![b'A', byte]),
+        ] {
+            let mut ours = [88; 3];
+            let mut theirs = [88; 3];
+            let answer = calls::read_text(&list, &text, &mut ours);
+            assert_eq!(answer, reference::read_text(&list, &text, &mut theirs), "{list:02X?}, {text:02X?}");
+            assert_eq!(ours, theirs, "{list:02X?}, {text:02X?}");
+        }
+    }
+}

@@ -1,0 +1,264 @@
+//! Random inputs: texts, shapes, arrays that are damaged, questions, plain texts and word lists.
+use super::random::Random;
+use super::reference;
+use concordance::ffi::{Question, Shape};
+use concordance::Arrays;
+
+/// Vocabulary sizes at and beside the steps of the code, and between them.
+pub fn vocabulary(random: &mut Random) -> usize {
+    match random.below(8) {
+        0 => random.between(1, 4),
+        1 => random.between(126, 130),
+        2 => random.between(255, 258),
+        3 => random.between(16_510, 16_515),
+        4 => random.between(1, 300),
+        5 => random.between(16_513, 40_000),
+        6 => random.between(1, 20_000),
+        _ => 130,
+    }
+}
+
+/// A vocabulary that may be outside its limits.
+pub fn any_vocabulary(random: &mut Random) -> usize {
+    match random.below(20) {
+        0 => 0,
+        1 => reference::MAX_VOCABULARY + 1,
+        2 => usize::MAX,
+        _ => vocabulary(random),
+    }
+}
+
+/// Block lengths within their limits.
+pub fn shape(random: &mut Random, vocabulary: usize) -> Shape {
+    let block = random.one_of(&[1, 2, 3, 5, 16, 64, 255, 256, 1000]);
+    let per_superblock = random.one_of(&[1, 2, 3, 8, 65]);
+    Shape { vocabulary, block, per_superblock }
+}
+
+/// A shape that may be outside its limits.
+pub fn any_shape(random: &mut Random) -> Shape {
+    let vocabulary = any_vocabulary(random);
+    let wild = [(0, 8), (8, 0), (256, 256), (65_535, 1), (65_536, 1), (1, 65_535), (usize::MAX, usize::MAX), (1 << 33, 1 << 33)];
+    if random.once_in(12) {
+        let (block, per_superblock) = random.one_of(&wild);
+        return Shape { vocabulary, block, per_superblock };
+    }
+    shape(random, vocabulary)
+}
+
+/// The ranks that a text is made of: few of them, so that phrases come again.
+fn ranks(random: &mut Random, vocabulary: usize) -> Vec<u32> {
+    let edges = [0, 126, 127, 128, 129, 255, 256, 16_510, 16_511, 16_512, 16_513, vocabulary - 1];
+    let count = random.between(1, 6);
+    let mut ranks: Vec<u32> = Vec::new();
+    for _ in 0..count {
+        let edge = random.one_of(&edges);
+        let rank = if edge < vocabulary && random.once_in(2) { edge } else { random.below(vocabulary) };
+        ranks.push(rank as u32);
+    }
+    ranks
+}
+
+/// A text with ranks below V.
+pub fn text(random: &mut Random, vocabulary: usize) -> Vec<u32> {
+    let length = match random.below(10) {
+        0 => 0,
+        1 => random.between(1, 3),
+        2 => random.between(200, 900),
+        _ => random.between(1, 60),
+    };
+    let ranks = ranks(random, vocabulary);
+    (0..length).map(|_| random.one_of(&ranks)).collect()
+}
+
+/// A text of which a rank may be V or above.
+pub fn any_text(random: &mut Random, vocabulary: usize) -> Vec<u32> {
+    let mut text = text(random, vocabulary.clamp(1, reference::MAX_VOCABULARY));
+    if !text.is_empty() && random.once_in(5) {
+        let place = random.below(text.len());
+        text[place] = random.one_of(&[vocabulary as u32, u32::MAX, (vocabulary as u32).wrapping_add(1)]);
+    }
+    text
+}
+
+/// Changes one element by one, or to any value.
+fn change(random: &mut Random, value: u32) -> u32 {
+    match random.below(3) {
+        0 => value.wrapping_add(1),
+        1 => value.wrapping_sub(1),
+        _ => random.next() as u32,
+    }
+}
+
+/// Changes, cuts, lengthens or swaps something in the arrays of an index; in some ways the counters
+/// are made again, so that only the nodes tell.
+pub fn damage(random: &mut Random, shape: Shape, arrays: &mut Arrays) {
+    match random.below(9) {
+        0 if !arrays.lengths.is_empty() => {
+            let at = random.below(arrays.lengths.len());
+            arrays.lengths[at] = change(random, arrays.lengths[at]);
+        }
+        1 if !arrays.bytes.is_empty() => {
+            let at = random.below(arrays.bytes.len());
+            arrays.bytes[at] = change(random, u32::from(arrays.bytes[at])) as u8;
+        }
+        2 => {
+            let at = random.below(arrays.superblocks.len());
+            arrays.superblocks[at] = change(random, arrays.superblocks[at]);
+        }
+        3 => {
+            let at = random.below(arrays.blocks.len());
+            arrays.blocks[at] = change(random, u32::from(arrays.blocks[at])) as u16;
+        }
+        4 => cut(random, arrays),
+        5 => lengthen(random, arrays),
+        6 if !arrays.bytes.is_empty() => {
+            let at = random.below(arrays.bytes.len());
+            arrays.bytes[at] = random.next() as u8;
+            count_again(shape, arrays);
+        }
+        7 if !arrays.bytes.is_empty() => {
+            let (one, other) = (random.below(arrays.bytes.len()), random.below(arrays.bytes.len()));
+            arrays.bytes.swap(one, other);
+            count_again(shape, arrays);
+        }
+        _ => {
+            let (one, other) = (random.below(arrays.lengths.len()), random.below(arrays.lengths.len()));
+            arrays.lengths.swap(one, other);
+        }
+    }
+}
+
+fn count_again(shape: Shape, arrays: &mut Arrays) {
+    let (superblocks, blocks) = reference::counters(shape, &arrays.bytes);
+    arrays.superblocks = superblocks;
+    arrays.blocks = blocks;
+}
+
+fn cut(random: &mut Random, arrays: &mut Arrays) {
+    match random.below(4) {
+        0 => drop(arrays.lengths.pop()),
+        1 => drop(arrays.bytes.pop()),
+        2 => drop(arrays.superblocks.pop()),
+        _ => drop(arrays.blocks.pop()),
+    }
+}
+
+fn lengthen(random: &mut Random, arrays: &mut Arrays) {
+    match random.below(4) {
+        0 => arrays.lengths.push(0),
+        1 => arrays.bytes.push(random.next() as u8),
+        2 => arrays.superblocks.push(0),
+        _ => arrays.blocks.push(0),
+    }
+}
+
+/// The lent words of phrases: parts of the text, other words, and now and then one that is V.
+pub fn words(random: &mut Random, vocabulary: usize, text: &[u32]) -> Vec<u32> {
+    let length = random.between(0, 20);
+    let mut words = Vec::new();
+    if !text.is_empty() {
+        let from = random.below(text.len());
+        words.extend(text[from..].iter().take(length));
+    }
+    while words.len() < length {
+        words.push(random.below(vocabulary) as u32);
+    }
+    if !words.is_empty() && random.once_in(8) {
+        let at = random.below(words.len());
+        words[at] = random.one_of(&[vocabulary as u32, u32::MAX]);
+    }
+    words
+}
+
+/// A place or an ordinal, about the text's ends or anywhere.
+fn number(random: &mut Random, text: &[u32]) -> usize {
+    match random.below(6) {
+        0 => text.len(),
+        1 => text.len() + 1,
+        2 => 0,
+        3 => random.one_of(&[usize::MAX, 1 << 32, 1 << 24]),
+        _ => random.below(text.len() + 2),
+    }
+}
+
+/// A rank of the text, or another.
+fn asked(random: &mut Random, vocabulary: usize, text: &[u32]) -> u32 {
+    match random.below(8) {
+        0 => vocabulary as u32,
+        1 => u32::MAX,
+        2 => random.below(vocabulary) as u32,
+        _ if text.is_empty() => 0,
+        _ => random.one_of(text),
+    }
+}
+
+/// A part of the lent words, inside or not.
+pub fn part(random: &mut Random, words: &[u32]) -> (usize, usize) {
+    match random.below(8) {
+        0 => (random.one_of(&[usize::MAX, words.len() + 1]), random.one_of(&[0, 1, usize::MAX])),
+        1 => (random.below(words.len() + 1), random.one_of(&[0, 17, usize::MAX])),
+        2 => (words.len(), random.below(3)),
+        _ => {
+            let start = random.below(words.len() + 1);
+            (start, random.between(0, (words.len() - start + 1).min(18)))
+        }
+    }
+}
+
+/// A question of any kind; fields that its kind does not use hold anything.
+pub fn question(random: &mut Random, vocabulary: usize, text: &[u32], words: &[u32]) -> Question {
+    let (start, length) = part(random, words);
+    Question {
+        kind: random.one_of(&[0, 1, 1, 2, 2, 3, 3, 4, 4, 4, 5, 5, 5, 6, u32::MAX]),
+        w: asked(random, vocabulary, text),
+        v: asked(random, vocabulary, text),
+        d: random.one_of(&[-17, -16, -3, -2, -1, 0, 1, 2, 3, 16, 17, i32::MIN, i32::MAX]),
+        p: number(random, text),
+        start,
+        length,
+    }
+}
+
+/// Bytes that make words, and bytes that do not.
+const LETTERS: [u8; 14] = [b'a', b'b', b'A', b'B', b'0', b'9', 0xC0, 0xE0, 0xDE, 0xFE, 0xDF, 0xFF, b'z', b'Z'];
+const SEPARATORS: [u8; 9] = [b' ', b'\n', b',', 0, 0xD7, 0xF7, 0x7F, 0x80, 0xBF];
+
+/// A plain text.
+pub fn plain_text(random: &mut Random) -> Vec<u8> {
+    let length = random.between(0, 60);
+    let any = random.once_in(10);
+    (0..length)
+        .map(|_| match random.below(4) {
+            _ if any => random.next() as u8,
+            0 => random.one_of(&SEPARATORS),
+            _ => random.one_of(&LETTERS),
+        })
+        .collect()
+}
+
+/// A list of the words of a text and some others, which may break a rule or lack a word.
+pub fn word_list(random: &mut Random, text: &[u8]) -> Vec<u8> {
+    let mut words: Vec<Vec<u8>> = Vec::new();
+    for (_, word) in reference::words_of(text) {
+        if !words.contains(&word) && !random.once_in(30) {
+            words.push(word);
+        }
+    }
+    for other in [&b"zzz"[..], b"q", b"\xE9t\xE9"] {
+        let other = other.to_vec();
+        if random.once_in(2) && !words.contains(&other) {
+            words.insert(random.below(words.len() + 1), other);
+        }
+    }
+    let mut list: Vec<u8> = words.iter().flat_map(|word| [&word[..], b"\n"].concat()).collect();
+    match random.below(12) {
+        0 => drop(list.pop()),
+        1 => list.insert(random.below(list.len() + 1), b'\n'),
+        2 => list.insert(random.below(list.len() + 1), random.one_of(&SEPARATORS)),
+        3 => list.insert(random.below(list.len() + 1), random.one_of(&LETTERS)),
+        4 => list.extend(list.clone().into_iter().take(6)),
+        _ => {}
+    }
+    list
+}

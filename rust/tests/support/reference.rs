@@ -1,0 +1,449 @@
+//! The engine as paper 01 describes it, written from the paper alone: plain scans over the text, and
+//! no search structure. Where an index is given, its text is read back from the nodes and all its
+//! arrays are made again from that text.
+use concordance::ffi::{Answer, Listing, Question, RawPage, Shape};
+use concordance::Arrays;
+
+pub const MAX_VOCABULARY: usize = 2_113_664;
+pub const MAX_WORDS: usize = 16_777_216;
+
+pub fn accepted(value: usize) -> Answer {
+    Answer { refusal: 0, value }
+}
+
+pub fn refused(refusal: u32) -> Answer {
+    Answer { refusal, value: 0 }
+}
+
+fn vocabulary_fits(vocabulary: usize) -> bool {
+    (1..=MAX_VOCABULARY).contains(&vocabulary)
+}
+
+fn blocks_fit(shape: Shape) -> bool {
+    let superblock = shape.block as u128 * shape.per_superblock as u128;
+    (1..=65_535).contains(&superblock)
+}
+
+// ---- the code
+
+/// The codeword of a rank.
+pub fn code(rank: u32) -> Vec<u8> {
+    let digits = |number: u32, count: u32| -> Vec<u8> {
+        let mut bytes: Vec<u8> = (0..count).rev().map(|power| (number / 128u32.pow(power) % 128) as u8).collect();
+        *bytes.last_mut().unwrap() += 128;
+        bytes
+    };
+    match rank {
+        0..=127 => digits(rank, 1),
+        128..=16_511 => digits(rank - 128, 2),
+        _ => digits(rank - 16_512, 3),
+    }
+}
+
+/// The stream of a text.
+pub fn stream(text: &[u32]) -> Vec<u8> {
+    text.iter().flat_map(|&rank| code(rank)).collect()
+}
+
+/// The rank of a codeword; none if it has over three bytes.
+fn rank(codeword: &[u8]) -> Option<u32> {
+    let number = codeword.iter().fold(0u64, |sum, &byte| sum * 128 + u64::from(byte % 128));
+    match codeword.len() {
+        1 => Some(number as u32),
+        2 => Some(number as u32 + 128),
+        3 => Some(number as u32 + 16_512),
+        _ => None,
+    }
+}
+
+/// The text of a stream; none if it is broken.
+pub fn stream_text(stream: &[u8]) -> Option<Vec<u32>> {
+    let mut text = Vec::new();
+    let mut codeword = Vec::new();
+    for &byte in stream {
+        codeword.push(byte);
+        if byte >= 0x80 {
+            text.push(rank(&codeword)?);
+            codeword.clear();
+        } else if codeword.len() >= 3 {
+            return None;
+        }
+    }
+    codeword.is_empty().then_some(text)
+}
+
+pub fn write_stream(vocabulary: usize, text: &[u32], into: &mut [u8]) -> Answer {
+    if !vocabulary_fits(vocabulary) {
+        return refused(1);
+    }
+    if text.len() > MAX_WORDS {
+        return refused(2);
+    }
+    if let Some(value) = text.iter().position(|&rank| rank as usize >= vocabulary) {
+        return Answer { refusal: 4, value };
+    }
+    let bytes = stream(text);
+    if into.len() < bytes.len() {
+        return refused(5);
+    }
+    into[..bytes.len()].copy_from_slice(&bytes);
+    accepted(bytes.len())
+}
+
+pub fn read_stream(stream: &[u8], into: &mut [u32]) -> Answer {
+    let closings = stream.iter().filter(|&&byte| byte >= 0x80).count();
+    if closings > MAX_WORDS {
+        return refused(2);
+    }
+    if into.len() < closings {
+        return refused(5);
+    }
+    match stream_text(stream) {
+        None => refused(15),
+        Some(text) => {
+            into[..text.len()].copy_from_slice(&text);
+            accepted(text.len())
+        }
+    }
+}
+
+// ---- the index
+
+/// The bytes of each node of a text.
+pub fn nodes(vocabulary: usize, text: &[u32]) -> Vec<Vec<u8>> {
+    let mut nodes = vec![Vec::new(); vocabulary.div_ceil(128)];
+    for &rank in text {
+        let mut node = 0;
+        for byte in code(rank) {
+            nodes[node].push(byte);
+            node = 128 * node + 1 + usize::from(byte);
+        }
+    }
+    nodes
+}
+
+/// The superblock rows and the block rows of some bytes.
+pub fn counters(shape: Shape, bytes: &[u8]) -> (Vec<u32>, Vec<u16>) {
+    let superblock = shape.block * shape.per_superblock;
+    let mut superblocks = Vec::new();
+    let mut blocks = Vec::new();
+    let mut all = [0u32; 256];
+    let mut inside = [0u16; 256];
+    for at in 0..=bytes.len() {
+        if at % superblock == 0 {
+            superblocks.extend_from_slice(&all);
+            inside = [0; 256];
+        }
+        if at % shape.block == 0 {
+            blocks.extend_from_slice(&inside);
+        }
+        if at < bytes.len() {
+            all[usize::from(bytes[at])] += 1;
+            inside[usize::from(bytes[at])] += 1;
+        }
+    }
+    (superblocks, blocks)
+}
+
+/// The index of a text.
+pub fn index(shape: Shape, text: &[u32]) -> Arrays {
+    let nodes = nodes(shape.vocabulary, text);
+    let bytes = nodes.concat();
+    let (superblocks, blocks) = counters(shape, &bytes);
+    Arrays { lengths: nodes.iter().map(|node| node.len() as u32).collect(), bytes, superblocks, blocks }
+}
+
+pub fn build(shape: Shape, text: &[u32], into: &mut Arrays) -> Answer {
+    if !vocabulary_fits(shape.vocabulary) {
+        return refused(1);
+    }
+    if text.len() > MAX_WORDS {
+        return refused(2);
+    }
+    if !blocks_fit(shape) {
+        return refused(3);
+    }
+    if let Some(value) = text.iter().position(|&rank| rank as usize >= shape.vocabulary) {
+        return Answer { refusal: 4, value };
+    }
+    let made = index(shape, text);
+    let short = into.lengths.len() < made.lengths.len()
+        || into.bytes.len() < made.bytes.len()
+        || into.superblocks.len() < made.superblocks.len()
+        || into.blocks.len() < made.blocks.len();
+    if short {
+        return refused(5);
+    }
+    into.lengths[..made.lengths.len()].copy_from_slice(&made.lengths);
+    into.bytes[..made.bytes.len()].copy_from_slice(&made.bytes);
+    into.superblocks[..made.superblocks.len()].copy_from_slice(&made.superblocks);
+    into.blocks[..made.blocks.len()].copy_from_slice(&made.blocks);
+    accepted(made.bytes.len())
+}
+
+/// The text that the nodes of some arrays spell: each byte of the root begins a word, and a byte
+/// below 80 goes on with the next byte of the child that no word before has taken. None where a
+/// byte is missing or left over, or a word has over three bytes.
+fn spelled(vocabulary: usize, lengths: &[u32], bytes: &[u8]) -> Option<Vec<u32>> {
+    if lengths.len() != vocabulary.div_ceil(128) {
+        return None;
+    }
+    let mut starts = Vec::with_capacity(lengths.len() + 1);
+    let mut end = 0u64;
+    for &length in lengths {
+        starts.push(end);
+        end += u64::from(length);
+    }
+    starts.push(end);
+    if end != bytes.len() as u64 {
+        return None;
+    }
+    let mut taken = starts.clone();
+    let mut text = Vec::new();
+    while taken[0] < starts[1] {
+        let mut codeword = Vec::new();
+        let mut node = 0;
+        loop {
+            if node >= lengths.len() || taken[node] == starts[node + 1] {
+                return None;
+            }
+            let byte = bytes[taken[node] as usize];
+            taken[node] += 1;
+            codeword.push(byte);
+            if byte >= 0x80 {
+                break;
+            }
+            node = 128 * node + 1 + usize::from(byte);
+        }
+        text.push(rank(&codeword)?);
+    }
+    let all_taken = (0..lengths.len()).all(|node| taken[node] == starts[node + 1]);
+    all_taken.then_some(text)
+}
+
+/// The text that has some arrays as its index; none where no text has.
+pub fn text_of(shape: Shape, arrays: &Arrays) -> Option<Vec<u32>> {
+    let text = spelled(shape.vocabulary, &arrays.lengths, &arrays.bytes)?;
+    let inside = text.len() <= MAX_WORDS && text.iter().all(|&rank| (rank as usize) < shape.vocabulary);
+    (inside && index(shape, &text) == *arrays).then_some(text)
+}
+
+/// The text of an index that is given to a call, or the refusal of the call.
+fn lent(shape: Shape, arrays: &Arrays) -> Result<Vec<u32>, Answer> {
+    if !vocabulary_fits(shape.vocabulary) {
+        return Err(refused(1));
+    }
+    if !blocks_fit(shape) {
+        return Err(refused(3));
+    }
+    text_of(shape, arrays).ok_or(refused(6))
+}
+
+pub fn check(shape: Shape, arrays: &Arrays) -> Answer {
+    match lent(shape, arrays) {
+        Ok(_) => accepted(0),
+        Err(answer) => answer,
+    }
+}
+
+// ---- questions
+
+/// The phrase in a part of the lent words; 8 or 9 where it is none.
+fn phrase(vocabulary: usize, words: &[u32], start: usize, length: usize) -> Result<&[u32], Answer> {
+    let inside = start <= words.len() && length <= words.len() - start;
+    if !(1..=16).contains(&length) || !inside {
+        return Err(refused(8));
+    }
+    let phrase = &words[start..start + length];
+    if phrase.iter().any(|&word| word as usize >= vocabulary) {
+        return Err(refused(9));
+    }
+    Ok(phrase)
+}
+
+/// All places at which a phrase stands.
+pub fn places(text: &[u32], phrase: &[u32]) -> Vec<usize> {
+    (0..=text.len()).filter(|&q| text[q..].starts_with(phrase)).collect()
+}
+
+/// The answer to a question about a text.
+fn answer(vocabulary: usize, text: &[u32], words: &[u32], question: Question) -> Answer {
+    let Question { kind, w, v, d, p, start, length } = question;
+    let unknown = |rank: u32| rank as usize >= vocabulary;
+    match kind {
+        1 => match text.get(p) {
+            Some(&rank) => accepted(rank as usize),
+            None => refused(11),
+        },
+        2 if unknown(w) => refused(9),
+        2 if p > text.len() => refused(11),
+        2 => accepted(text[..p].iter().filter(|&&word| word == w).count()),
+        3 if unknown(w) => refused(9),
+        3 => {
+            let places: Vec<usize> = (0..text.len()).filter(|&q| text[q] == w).collect();
+            if p >= 1 && p <= places.len() { accepted(places[p - 1]) } else { refused(11) }
+        }
+        4 if unknown(w) || unknown(v) => refused(9),
+        4 if !(-16..=16).contains(&d) => refused(10),
+        4 => {
+            let at = |q: usize| q as i64 + i64::from(d);
+            let inside = |q: usize| (0..text.len() as i64).contains(&at(q));
+            let pairs = (0..text.len()).filter(|&q| text[q] == w && inside(q) && text[at(q) as usize] == v);
+            accepted(pairs.count())
+        }
+        5 => match phrase(vocabulary, words, start, length) {
+            Ok(phrase) => accepted(places(text, phrase).len()),
+            Err(refusal) => refusal,
+        },
+        _ => refused(7),
+    }
+}
+
+pub fn ask(shape: Shape, arrays: &Arrays, words: &[u32], question: Question) -> Answer {
+    match lent(shape, arrays) {
+        Ok(text) => answer(shape.vocabulary, &text, words, question),
+        Err(refusal) => refusal,
+    }
+}
+
+pub fn answer_sheet(
+    shape: Shape,
+    arrays: &Arrays,
+    words: &[u32],
+    questions: &[Question],
+    into: &mut [u32],
+) -> Answer {
+    let text = match lent(shape, arrays) {
+        Ok(text) => text,
+        Err(refusal) => return refusal,
+    };
+    if into.len() / 2 < questions.len() {
+        return refused(12);
+    }
+    for (question, pair) in questions.iter().zip(into.chunks_mut(2)) {
+        let single = answer(shape.vocabulary, &text, words, *question);
+        pair[0] = single.refusal;
+        pair[1] = single.value as u32;
+    }
+    accepted(2 * questions.len())
+}
+
+pub fn passage(shape: Shape, arrays: &Arrays, place: usize, into: &mut [u32]) -> Answer {
+    let text = match lent(shape, arrays) {
+        Ok(text) => text,
+        Err(refusal) => return refusal,
+    };
+    if place > text.len() || into.len() > text.len() - place {
+        return refused(11);
+    }
+    into.copy_from_slice(&text[place..place + into.len()]);
+    accepted(into.len())
+}
+
+/// A page of a listing.
+pub fn page(
+    listing: Listing,
+    shape: Shape,
+    arrays: &Arrays,
+    words: &[u32],
+    start: usize,
+    length: usize,
+    lines: &mut [u32],
+) -> RawPage {
+    let turned_down = |answer: Answer| RawPage { answer, more: false, listing };
+    let text = match lent(shape, arrays) {
+        Ok(text) => text,
+        Err(refusal) => return turned_down(refusal),
+    };
+    let phrase = match phrase(shape.vocabulary, words, start, length) {
+        Ok(phrase) => phrase,
+        Err(refusal) => return turned_down(refusal),
+    };
+    if listing.next > text.len() {
+        return turned_down(refused(11));
+    }
+    if lines.is_empty() {
+        return turned_down(refused(12));
+    }
+    if listing.finished {
+        return RawPage { answer: accepted(0), more: false, listing };
+    }
+    let hits: Vec<usize> = places(&text, phrase).into_iter().filter(|&q| q >= listing.next).collect();
+    let written = hits.len().min(lines.len());
+    for (line, &hit) in lines.iter_mut().zip(&hits) {
+        *line = hit as u32;
+    }
+    let more = hits.len() > written;
+    let next = if more { hits[written - 1] + 1 } else { text.len() };
+    RawPage { answer: accepted(written), more, listing: Listing { next, finished: !more } }
+}
+
+// ---- plain text
+
+/// The letter of a byte; 0 for a separator.
+pub fn letter(byte: u8) -> u8 {
+    match byte {
+        0x30..=0x39 | 0x61..=0x7A => byte,
+        0x41..=0x5A => byte + 0x20,
+        0xD7 | 0xF7 => 0,
+        0xC0..=0xDE => byte + 0x20,
+        0xDF..=0xFF => byte,
+        _ => 0,
+    }
+}
+
+/// The words of a plain text, each with the byte offset at which it starts.
+pub fn words_of(text: &[u8]) -> Vec<(usize, Vec<u8>)> {
+    let mut words: Vec<(usize, Vec<u8>)> = Vec::new();
+    let mut inside = false;
+    for (at, &byte) in text.iter().enumerate() {
+        let folded = letter(byte);
+        if folded == 0 {
+            inside = false;
+        } else if inside {
+            words.last_mut().unwrap().1.push(folded);
+        } else {
+            words.push((at, vec![folded]));
+            inside = true;
+        }
+    }
+    words
+}
+
+/// The words of a list by their rank; none where it breaks a rule.
+fn list_words(list: &[u8]) -> Option<Vec<&[u8]>> {
+    if list.last().is_some_and(|&byte| byte != 0x0A) {
+        return None;
+    }
+    let mut words: Vec<&[u8]> = list.split(|&byte| byte == 0x0A).collect();
+    words.pop();
+    let kept = |word: &&[u8]| !word.is_empty() && word.iter().all(|&byte| byte != 0 && letter(byte) == byte);
+    let distinct: std::collections::HashSet<&[u8]> = words.iter().copied().collect();
+    (words.iter().all(kept) && distinct.len() == words.len()).then_some(words)
+}
+
+pub fn read_text(list: &[u8], text: &[u8], into: &mut [u32]) -> Answer {
+    let closings = list.iter().filter(|&&byte| byte == 0x0A).count();
+    if !vocabulary_fits(closings) {
+        return refused(1);
+    }
+    let words = words_of(text);
+    if words.len() > MAX_WORDS {
+        return refused(2);
+    }
+    if into.len() < words.len() {
+        return refused(5);
+    }
+    let Some(listed) = list_words(list) else {
+        return refused(13);
+    };
+    let ranks: std::collections::HashMap<&[u8], u32> =
+        listed.iter().enumerate().map(|(rank, &word)| (word, rank as u32)).collect();
+    if let Some((offset, _)) = words.iter().find(|(_, word)| !ranks.contains_key(&word[..])) {
+        return Answer { refusal: 14, value: *offset };
+    }
+    for (line, (_, word)) in into.iter_mut().zip(&words) {
+        *line = ranks[&word[..]];
+    }
+    accepted(words.len())
+}
