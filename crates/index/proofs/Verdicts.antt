@@ -11,7 +11,7 @@ use Rattle.base.proofs.Segments.{count-segments, segment-length}
 use Rattle.dense.specs.Code.{Closing, maxVocabulary}
 use Rattle.dense.proofs.Streams.{stream-most}
 use Rattle.directory.specs.Counters.{maxBytes, isDirectory, Directory}
-use Rattle.directory.proofs.Rows.{is-directory, directory-of}
+use Rattle.directory.proofs.Rows.{is-directory}
 use Rattle.tree.specs.Nodes.{nodeCount}
 use Rattle.index.specs.declared.Shape.{Shape}
 use Rattle.index.specs.Arrays.{Arrays, passes, textIn}
@@ -47,24 +47,22 @@ module _ (s : ℕ) (within : Closing s) (shape : Shape) (fits : shape .vocabular
     pub passes-directory : isDirectory (shape .block) (shape .«per_superblock») (a .bytes) (a .superblocks) (a .blocks) ≡ true
     passes-directory = is-directory (shape .block) (shape .«per_superblock») (a .bytes) (a .superblocks) (a .blocks) record { superblocks-are = tested .superblocks-are; blocks-are = tested .blocks-are }
 
-  -- arrays that have all that is tested before the counters pass exactly if these are the counters of the bytes
-  pub directory-decides : Below 256 (a .bytes) → length (a .lengths) ≡ nodeCount s (shape .vocabulary) → total (a .lengths) ≡ length (a .bytes) → getD (a .lengths) 0 0 ≤ maxWords
-      → nodesPass s (shape .vocabulary) (a .lengths) (a .bytes) ≡ true
-      → isDirectory (shape .block) (shape .«per_superblock») (a .bytes) (a .superblocks) (a .blocks) ≡ passes s shape a
-  directory-decides b number whole root nodes = go (isDirectory (shape .block) (shape .«per_superblock») (a .bytes) (a .superblocks) (a .blocks)) refl
+  -- arrays that have all that is tested before the nodes pass exactly if their nodes do
+  pub nodes-decide : Below 256 (a .bytes) → length (a .lengths) ≡ nodeCount s (shape .vocabulary) → total (a .lengths) ≡ length (a .bytes) → getD (a .lengths) 0 0 ≤ maxWords
+      → Directory (shape .block) (shape .«per_superblock») (a .bytes) (a .superblocks) (a .blocks)
+      → nodesPass s (shape .vocabulary) (a .lengths) (a .bytes) ≡ passes s shape a
+  nodes-decide b number whole root d = go (nodesPass s (shape .vocabulary) (a .lengths) (a .bytes)) refl
     where
-      go : (t : Bool) → isDirectory (shape .block) (shape .«per_superblock») (a .bytes) (a .superblocks) (a .blocks) ≡ t
-          → isDirectory (shape .block) (shape .«per_superblock») (a .bytes) (a .superblocks) (a .blocks) ≡ passes s shape a
+      go : (t : Bool) → nodesPass s (shape .vocabulary) (a .lengths) (a .bytes) ≡ t → nodesPass s (shape .vocabulary) (a .lengths) (a .bytes) ≡ passes s shape a
       go true e =
-          let d : Directory (shape .block) (shape .«per_superblock») (a .bytes) (a .superblocks) (a .blocks) = directory-of (shape .block) (shape .«per_superblock») (a .bytes) (a .superblocks) (a .blocks) e in
           e ∙ sym (tests-passes s within shape fits a record {
             whole = whole;
-            good = pass-good s (shape .vocabulary) (a .lengths) (a .bytes) b whole number nodes;
+            good = pass-good s (shape .vocabulary) (a .lengths) (a .bytes) b whole number e;
             short = omega (arith, root, segment-length (a .lengths) (a .bytes) 0 (omega arith));
             superblocks-are = d .superblocks-are;
             blocks-are = d .blocks-are;
           })
-      go false e = e ∙ sym (false-of (passes s shape a) (λ p. false≢true (sym e ∙ passes-directory p)))
+      go false e = e ∙ sym (false-of (passes s shape a) (λ p. false≢true (sym e ∙ passes-nodes p b)))
 
   -- arrays that lack what those that pass have do not pass
   pub not-passing : (passes s shape a ≡ true → ⊥) → false ≡ passes s shape a

@@ -1,11 +1,11 @@
 // Whether four slices are the index of some text.
 ghost use mathlib.Core.Path.{_≡_};
 ghost use mathlib.Core.Bool.{true};
-ghost use Prim.Native.Nat.{_+_, _≤_, _<_};
+ghost use Prim.Native.Nat.{_-_, _≤_, _<_};
 ghost use lib.ListN.{length, getD, take, drop};
 ghost use Rattle.base.specs.Lists.{total};
 ghost use Rattle.dense.specs.Code.{Closing, maxVocabulary};
-ghost use Rattle.directory.specs.Counters.{row, maxBytes};
+ghost use Rattle.directory.specs.Counters.{row, maxBytes, Sizes, Directory};
 ghost use Rattle.tree.specs.Nodes.{maxNodes};
 ghost use Rattle.index.specs.Arrays.{arrays, passes as arraysPass};
 ghost use Rattle.index.specs.Entries.{limitsRefusal};
@@ -13,6 +13,9 @@ ghost use Rattle.index.specs.Exact.{WithinLimits};
 ghost use Rattle.index.specs.Tests.{valueTest, nodePasses, nodesPass};
 use crate::Shape;
 use base::refusal;
+
+// A node of so many blocks is long.
+const LONG: usize = 32;
 
 // The number of the refusal that V, B or b outside their limits brings; 0 where they are within.
 pub fn limits(s: usize, shape: Shape) -> u32
@@ -66,6 +69,51 @@ fn histogram(part: &[u8]) -> [u32; 256]
     counts
 }
 
+// How often each byte value stands from a start to an end, by the counters of all bytes.
+fn counted_row(
+    shape: Shape,
+    bytes: &[u8],
+    superblocks: &[u32],
+    blocks: &[u16],
+    start: usize,
+    end: usize,
+) -> [u32; 256]
+    requires { ⌜ Sizes (shape .block) (shape .«per_superblock») (now bytes) × Directory (shape .block) (shape .«per_superblock») (now bytes) (now superblocks) (now blocks) × (start ≤ end) × (end ≤ length (now bytes)) ⌝ }
+    ensures { λ r. ⌜ r ≡ row (take (end - start) (drop start (now (bytes .entry)))) ⌝ }
+{
+    let mut counts = [0u32; 256];
+    let block = shape.block;
+    let per = shape.per_superblock;
+    let mut value: usize = 0;
+    while value < 256 {
+        let byte = value as u8;
+        let before = directory::count_below(bytes, superblocks, blocks, block, per, byte, start);
+        let below = directory::count_below(bytes, superblocks, blocks, block, per, byte, end);
+        counts[value] = (below - before) as u32;
+        value += 1;
+    }
+    counts
+}
+
+// How often each byte value stands from a start to an end: by the counters where that is long, so
+// that the bytes of a long node are passed over once, where the counters are verified.
+fn node_row(
+    shape: Shape,
+    bytes: &[u8],
+    superblocks: &[u32],
+    blocks: &[u16],
+    start: usize,
+    end: usize,
+) -> [u32; 256]
+    requires { ⌜ Sizes (shape .block) (shape .«per_superblock») (now bytes) × Directory (shape .block) (shape .«per_superblock») (now bytes) (now superblocks) (now blocks) × (start ≤ end) × (end ≤ length (now bytes)) ⌝ }
+    ensures { λ r. ⌜ r ≡ row (take (end - start) (drop start (now (bytes .entry)))) ⌝ }
+{
+    if end - start < LONG * shape.block {
+        return histogram(&bytes[start..end]);
+    }
+    counted_row(shape, bytes, superblocks, blocks, start, end)
+}
+
 // Whether a byte value may stand in a node as often as it does.
 fn value_passes(
     s: usize,
@@ -93,12 +141,23 @@ fn value_passes(
     count == 0
 }
 
-// Whether all byte values may stand in a node as often as they do in its bytes.
-fn node_passes(s: usize, vocabulary: usize, lengths: &[u32], node: usize, part: &[u8]) -> bool
-    requires { ⌜ Closing s × (node < maxNodes s) × (length (now part) ≤ maxBytes) ⌝ }
-    ensures { λ r. ⌜ r ≡ nodePasses s vocabulary (now (lengths .entry)) node (now (part .entry)) ⌝ }
+// Whether all byte values may stand in a node, from a start to an end, as often as they do.
+fn node_passes(
+    s: usize,
+    shape: Shape,
+    lengths: &[u32],
+    bytes: &[u8],
+    superblocks: &[u32],
+    blocks: &[u16],
+    node: usize,
+    start: usize,
+    end: usize,
+) -> bool
+    requires { ⌜ Closing s × (node < maxNodes s) × Sizes (shape .block) (shape .«per_superblock») (now bytes) × Directory (shape .block) (shape .«per_superblock») (now bytes) (now superblocks) (now blocks) × (start ≤ end) × (end ≤ length (now bytes)) ⌝ }
+    ensures { λ r. ⌜ r ≡ nodePasses s (shape .vocabulary) (now (lengths .entry)) node (take (end - start) (drop start (now (bytes .entry)))) ⌝ }
 {
-    let counts = histogram(part);
+    let counts = node_row(shape, bytes, superblocks, blocks, start, end);
+    let vocabulary = shape.vocabulary;
     let mut value: usize = 0;
     while value < 256 {
         if !value_passes(s, vocabulary, lengths, node, value as u8, counts[value]) {
@@ -110,15 +169,32 @@ fn node_passes(s: usize, vocabulary: usize, lengths: &[u32], node: usize, part: 
 }
 
 // Whether all nodes pass, whose lengths make up the bytes.
-fn nodes_pass(s: usize, vocabulary: usize, lengths: &[u32], bytes: &[u8]) -> bool
-    requires { ⌜ Closing s × (length (now lengths) ≤ maxNodes s) × (length (now bytes) ≤ maxBytes) × (total (now lengths) ≡ length (now bytes)) ⌝ }
-    ensures { λ r. ⌜ r ≡ nodesPass s vocabulary (now (lengths .entry)) (now (bytes .entry)) ⌝ }
+fn nodes_pass(
+    s: usize,
+    shape: Shape,
+    lengths: &[u32],
+    bytes: &[u8],
+    superblocks: &[u32],
+    blocks: &[u16],
+) -> bool
+    requires { ⌜ Closing s × (length (now lengths) ≤ maxNodes s) × Sizes (shape .block) (shape .«per_superblock») (now bytes) × Directory (shape .block) (shape .«per_superblock») (now bytes) (now superblocks) (now blocks) × (total (now lengths) ≡ length (now bytes)) ⌝ }
+    ensures { λ r. ⌜ r ≡ nodesPass s (shape .vocabulary) (now (lengths .entry)) (now (bytes .entry)) ⌝ }
 {
     let mut start: usize = 0;
     let mut node = 0;
     while node < lengths.len() {
         let end = start + lengths[node] as usize;
-        if !node_passes(s, vocabulary, lengths, node, &bytes[start..end]) {
+        if !node_passes(
+            s,
+            shape,
+            lengths,
+            bytes,
+            superblocks,
+            blocks,
+            node,
+            start,
+            end,
+        ) {
             return false;
         }
         start = end;
@@ -152,14 +228,10 @@ pub fn passes(
     if base::MAX_WORDS < lengths[0] as usize {
         return false;
     }
-    if !nodes_pass(s, shape.vocabulary, lengths, bytes) {
+    let block = shape.block;
+    let per = shape.per_superblock;
+    if !counters::verify(bytes, superblocks, blocks, block, per) {
         return false;
     }
-    counters::verify(
-        bytes,
-        superblocks,
-        blocks,
-        shape.block,
-        shape.per_superblock,
-    )
+    nodes_pass(s, shape, lengths, bytes, superblocks, blocks)
 }

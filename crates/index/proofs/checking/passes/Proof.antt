@@ -1,4 +1,4 @@
--- `index::checking::passes` meets its contract: a test that fails is one that arrays that pass meet, and past all of them the counters decide.
+-- `index::checking::passes` meets its contract: a test that fails is one that arrays that pass meet, and past all of them the nodes decide.
 -- Assumes nothing.
 use Prim.Native.Nat.{ℕ, _<_}
 use mathlib.Core.Path.{_≡_, sym, _∙_}
@@ -9,10 +9,12 @@ use borrow.Author.Needs.{needs}
 use lib.ListN.{length}
 use Rattle.base.specs.Lists.{Below}
 use Rattle.base.proofs.Lists.{all-of-at}
+use Rattle.directory.specs.Counters.{Directory}
+use Rattle.directory.proofs.Rows.{directory-of}
 use Rattle.tree.specs.Nodes.{nodeCount}
 use Rattle.tree.proofs.Numbers.{nodes-most, levels-most, node-below}
 use Rattle.index.specs.Arrays.{Arrays, arrays}
-use Rattle.index.proofs.Verdicts.{passes-number, passes-whole, passes-bytes, passes-root, passes-nodes, directory-decides, not-passing}
+use Rattle.index.proofs.Verdicts.{passes-number, passes-whole, passes-bytes, passes-root, passes-directory, nodes-decide, not-passing}
 use Rattle.index.proofs.checking.passes.Statement.{statement}
 use Rattle.index.proofs.checking.passes.Tie as tie
 
@@ -55,24 +57,32 @@ cast-if4 c = omega (arith, c .shared-slice-known5 .given 0)
 returns-4 : tie.Need-returns-4
 returns-4 c = not-passing (c .before .before .before .before .before .before .before .before .before .before .before .args .s) (c .before .before .before .before .before .before .before .before .before .before .before .pre .0) (c .before .before .before .before .before .before .before .before .before .before .before .args .shape) (c .before .before .before .before .before .before .before .before .before .before .before .pre .1 .mostWords) (four (c .before .before .before .before .before .before .before .before .before .before .before)) (λ e. absurd (omega (arith, c .if4 .taken, passes-root (c .before .before .before .before .before .before .before .before .before .before .before .args .s) (c .before .before .before .before .before .before .before .before .before .before .before .pre .0) (c .before .before .before .before .before .before .before .before .before .before .before .args .shape) (c .before .before .before .before .before .before .before .before .before .before .before .pre .1 .mostWords) (four (c .before .before .before .before .before .before .before .before .before .before .before)) e)))
 
-nodes-pass-requires : tie.Need-nodes-pass-requires
-nodes-pass-requires c κs = let start = c .before .before .before .before .before .before .before .before .before .before .before in (
-  start .pre .0,
-  omega (arith, number (c .before .before .before .before .before), nodes-most (start .args .s) (start .pre .0) (start .args .shape .vocabulary) (start .pre .1 .mostWords)),
-  c .before .before .before .before .if2 .left,
-  sym (c .before .before .before .total-length .ensures) ∙ c .before .before .if3 .left,
-)
-
-returns-5 : tie.Need-returns-5
-returns-5 c = not-passing (c .before .before .before .before .before .before .before .before .before .before .before .before .before .args .s) (c .before .before .before .before .before .before .before .before .before .before .before .before .before .pre .0) (c .before .before .before .before .before .before .before .before .before .before .before .before .before .args .shape) (c .before .before .before .before .before .before .before .before .before .before .before .before .before .pre .1 .mostWords) (four (c .before .before .before .before .before .before .before .before .before .before .before .before .before)) (λ e. false≢true (sym (sym (c .before .nodes-pass .ensures) ∙ not-true _ (c .if5 .taken)) ∙ passes-nodes (c .before .before .before .before .before .before .before .before .before .before .before .before .before .args .s) (c .before .before .before .before .before .before .before .before .before .before .before .before .before .pre .0) (c .before .before .before .before .before .before .before .before .before .before .before .before .before .args .shape) (c .before .before .before .before .before .before .before .before .before .before .before .before .before .pre .1 .mostWords) (four (c .before .before .before .before .before .before .before .before .before .before .before .before .before)) e (bytes-of (c .before .before .before .before .before .before .before .before))))
-
 verify-requires : tie.Need-verify-requires
 verify-requires c κs = search needs
 
+returns-5 : tie.Need-returns-5
+returns-5 c = let start = c .before .before .before .before .before .before .before .before .before .before .before .before .before in
+    not-passing (start .args .s) (start .pre .0) (start .args .shape) (start .pre .1 .mostWords) (four start)
+    (λ e. false≢true (sym (sym (c .before .verify .ensures) ∙ not-true _ (c .if5 .taken)) ∙ passes-directory (start .args .s) (start .pre .0) (start .args .shape) (start .pre .1 .mostWords) (four start) e))
+
+-- past the counters these are those of the bytes
+verified : (c : tie.Else5) → let a = c .before .before .before .before .before .before .before .before .before .before .before .before .before .args in Directory (a .shape .block) (a .shape .«per_superblock») (a .bytes .now) (a .superblocks .now) (a .blocks .now)
+verified c = let a = c .before .before .before .before .before .before .before .before .before .before .before .before .before .args in
+    directory-of (a .shape .block) (a .shape .«per_superblock») (a .bytes .now) (a .superblocks .now) (a .blocks .now) (sym (c .before .verify .ensures) ∙ not-false _ (c .if5 .left))
+
+nodes-pass-requires : tie.Need-nodes-pass-requires
+nodes-pass-requires c κs = let start = c .before .before .before .before .before .before .before .before .before .before .before .before .before in (
+  start .pre .0,
+  omega (arith, number (c .before .before .before .before .before .before .before), nodes-most (start .args .s) (start .pre .0) (start .args .shape .vocabulary) (start .pre .1 .mostWords)),
+  record { block-some = start .pre .1 .someByte; per-some = start .pre .1 .someBlock; superblock-most = start .pre .1 .mostBytes; bytes-most = c .before .before .before .before .before .before .if2 .left },
+  verified c,
+  sym (c .before .before .before .before .before .total-length .ensures) ∙ c .before .before .before .before .if3 .left,
+)
+
 returns-6 : tie.Need-returns-6
-returns-6 c = c .verify .ensures
-    ∙ directory-decides (c .before .before .before .before .before .before .before .before .before .before .before .before .before .before .args .s) (c .before .before .before .before .before .before .before .before .before .before .before .before .before .before .pre .0) (c .before .before .before .before .before .before .before .before .before .before .before .before .before .before .args .shape) (c .before .before .before .before .before .before .before .before .before .before .before .before .before .before .pre .1 .mostWords) (four (c .before .before .before .before .before .before .before .before .before .before .before .before .before .before)) (bytes-of (c .before .before .before .before .before .before .before .before .before)) (number (c .before .before .before .before .before .before .before .before)) (sym (c .before .before .before .before .before .before .total-length .ensures) ∙ c .before .before .before .before .before .if3 .left) (c .before .before .before .if4 .left)
-    (sym (c .before .before .nodes-pass .ensures) ∙ not-false _ (c .before .if5 .left))
+returns-6 c = let start = c .before .before .before .before .before .before .before .before .before .before .before .before .before .before in
+    c .nodes-pass .ensures
+    ∙ nodes-decide (start .args .s) (start .pre .0) (start .args .shape) (start .pre .1 .mostWords) (four start) (bytes-of (c .before .before .before .before .before .before .before .before .before)) (number (c .before .before .before .before .before .before .before .before)) (sym (c .before .before .before .before .before .before .total-length .ensures) ∙ c .before .before .before .before .before .if3 .left) (c .before .before .before .if4 .left) (verified (c .before))
 
 pub passes-spec : {M : Type 1} → statement M
 passes-spec =
@@ -86,7 +96,7 @@ passes-spec =
     shared-slice-read-if4
     cast-if4
     returns-4
-    nodes-pass-requires
-    returns-5
     verify-requires
+    returns-5
+    nodes-pass-requires
     returns-6)

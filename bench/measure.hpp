@@ -1,0 +1,38 @@
+// Times of calls in one run, and the table that they are printed in.
+#pragma once
+#include <chrono>
+#include <cstdio>
+#include <string>
+#include <vector>
+
+// The seconds of one call: the least of some runs.
+template <class Call> double seconds(int runs, Call call) {
+    double least = 1e99;
+    for (int i = 0; i < runs; i++) {
+        const auto start = std::chrono::steady_clock::now();
+        call();
+        const std::chrono::duration<double> time = std::chrono::steady_clock::now() - start;
+        if (time.count() < least) least = time.count();
+    }
+    return least;
+}
+
+// A line of the table: what was measured, the engine's time, and the time of another.
+struct Line {
+    size_t words;
+    std::string what, other;
+    double engine, peer;
+};
+
+class Table {
+  public:
+    void add(size_t words, const std::string &what, double engine, const std::string &other, double peer) {
+        lines.push_back({words, what, other, engine, peer});
+        std::printf("| %zu | %s | %.6g | %s | %.6g | %.2f |\n", words, what.c_str(), engine * 1e3, other.c_str(), peer * 1e3, engine / peer);
+        std::fflush(stdout);
+    }
+    const std::vector<Line> &all() const { return lines; }
+
+  private:
+    std::vector<Line> lines;
+};
