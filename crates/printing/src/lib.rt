@@ -1,4 +1,4 @@
-// What the programs print of answers, bytes and ranks, to standard output.
+// What the programs print of answers, bytes, ranks and cases, to standard output.
 use base::Answer;
 use libc::STDOUT_FILENO;
 ghost use mathlib.Core.Path.{_≡_};
@@ -54,4 +54,29 @@ pub fn answer(a: Answer) {
         words(b" with ");
     }
     number(a.value);
+}
+
+// Ends the line of a case with its answer.
+pub fn answer_line(a: Answer) {
+    words(b": ");
+    answer(a);
+    words(b"\n");
+}
+
+// Ends the line of a case with its answer and what a slice of bytes holds then.
+pub fn answer_with_bytes(a: Answer, s: &[u8]) {
+    words(b": ");
+    answer(a);
+    words(b":");
+    bytes(s);
+    words(b"\n");
+}
+
+// Ends the line of a case with its answer and what a slice of ranks holds then.
+pub fn answer_with_ranks(a: Answer, s: &[u32]) {
+    words(b": ");
+    answer(a);
+    words(b":");
+    ranks(s);
+    words(b"\n");
 }

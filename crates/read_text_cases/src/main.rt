@@ -1,6 +1,5 @@
-// Reads plain texts through word lists, one case a line: its name, the refusal or 0, the value, and
-// what the slice holds then, which is filled with nines before.
-use libc::STDOUT_FILENO;
+// Reads plain texts through word lists, one case a line: its name, the answer, and what the slice
+// holds then, which held nothing but 9 before.
 
 // The words 0 "the", 1 "cat", 2 E9 74 E9 and 3 DF, each closed.
 const LIST: [u8; 14] = [
@@ -20,27 +19,11 @@ const LIST: [u8; 14] = [
     10,
 ];
 
-// Writes the elements of a slice, a blank before each.
-fn print_ranks(ranks: &[u32]) {
-    let mut place = 0;
-    while place < ranks.len() {
-        io::write_all(STDOUT_FILENO, b" ");
-        io::print_decimal(STDOUT_FILENO, ranks[place] as u64);
-        place += 1;
-    }
-}
-
 // Reads a text and writes the line of the case.
 fn show(name: &[u8], list: &[u8], text: &[u8], ranks: &mut [u32]) {
     let answer = lexicon::read_text(list, text, ranks);
-    io::write_all(STDOUT_FILENO, name);
-    io::write_all(STDOUT_FILENO, b": refusal ");
-    io::print_decimal(STDOUT_FILENO, answer.refusal as u64);
-    io::write_all(STDOUT_FILENO, b" value ");
-    io::print_decimal(STDOUT_FILENO, answer.value as u64);
-    io::write_all(STDOUT_FILENO, b" ranks");
-    print_ranks(ranks);
-    io::write_all(STDOUT_FILENO, b"\n");
+    printing::words(name);
+    printing::answer_with_ranks(answer, ranks);
 }
 
 // A case with the list of four words and a slice of four elements.

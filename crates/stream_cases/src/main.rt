@@ -6,11 +6,7 @@ fn write_case(name: &[u8], vocabulary: usize, text: &[u32]) {
     let mut stream = [7u8; 4];
     let a = dense::write_stream(vocabulary, text, &mut stream);
     printing::words(name);
-    printing::words(b": ");
-    printing::answer(a);
-    printing::words(b":");
-    printing::bytes(&stream);
-    printing::words(b"\n");
+    printing::answer_with_bytes(a, &stream);
 }
 
 // Reads a stream into a slice of three ranks.
@@ -18,11 +14,7 @@ fn read_case(name: &[u8], stream: &[u8]) {
     let mut text = [7u32; 3];
     let a = dense::read_stream(stream, &mut text);
     printing::words(name);
-    printing::words(b": ");
-    printing::answer(a);
-    printing::words(b":");
-    printing::ranks(&text);
-    printing::words(b"\n");
+    printing::answer_with_ranks(a, &text);
 }
 
 fn main() {

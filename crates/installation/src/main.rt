@@ -1,0 +1,198 @@
+// The sheet of a new installation: each line says what is tried, what came of it, and in brackets
+// what another result would mean.
+use base::Answer;
+use listing::Listing;
+use questions::Question;
+use small_indexes::SmallIndex;
+use small_indexes::shape_of;
+
+// The arrays of the text 0 128 0 129 128 with V 130, B 8 and b 1: the lengths of the nodes, the bytes
+// of the nodes, and the block counters, all 0.
+const LENGTHS: [u32; 2] = [5, 3];
+
+const BYTES: [u8; 8] = [0x80, 0x00, 0x80, 0x00, 0x00, 0x80, 0x81, 0x80];
+
+const BLOCKS: [u16; 512] = [0; 512];
+
+// Their superblock counters: in the eight bytes, 00 stands three times, 80 four times and 81 once.
+fn superblocks() -> [u32; 512] {
+    let mut counters = [0; 512];
+    counters[256] = 3;
+    counters[384] = 4;
+    counters[385] = 1;
+    counters
+}
+
+// Starts a line with what is tried.
+fn start(tried: &[u8]) {
+    printing::words(tried);
+    printing::words(b": ");
+}
+
+// Ends a line with what another result would mean.
+fn end(otherwise: &[u8]) {
+    printing::words(b" (");
+    printing::words(otherwise);
+    printing::words(b")\n");
+}
+
+// Prints a refusal.
+fn refused(answer: Answer) {
+    printing::words(b"refused ");
+    printing::number(answer.refusal as usize);
+}
+
+// Checks the arrays with these bytes and superblock counters.
+fn check(tried: &[u8], bytes: &[u8], counters: &[u32], otherwise: &[u8]) {
+    let answer = index::check(shape_of(130, 8, 1), &LENGTHS, bytes, counters, &BLOCKS);
+    start(tried);
+    if answer.refusal == 0 {
+        printing::words(b"passed");
+    } else {
+        refused(answer);
+    }
+    end(otherwise);
+}
+
+// Loads the arrays and checks them, whole and with one element changed.
+fn check_arrays() {
+    let counters = superblocks();
+    check(
+        b"The arrays of a small text are loaded and checked",
+        &BYTES,
+        &counters,
+        b"refused: the arrays did not arrive whole",
+    );
+    let mut bytes = BYTES;
+    bytes[5] = 0x81;
+    check(
+        b"The same arrays with one byte changed",
+        &bytes,
+        &counters,
+        b"passed: the check does not see every byte",
+    );
+    let mut off_by_one = counters;
+    off_by_one[385] = 2;
+    check(
+        b"The same arrays with one counter off by one",
+        &BYTES,
+        &off_by_one,
+        b"passed: the check does not see every counter",
+    );
+}
+
+// Prints the value of an answer, or its refusal.
+fn value(answer: Answer) {
+    if answer.refusal == 0 {
+        printing::number(answer.value);
+    } else {
+        refused(answer);
+    }
+}
+
+// Reads the words at two places.
+fn read(tried: &[u8], small: SmallIndex, first: usize, second: usize, otherwise: &[u8]) {
+    start(tried);
+    value(small.ask(&[], Question::word_at(first)));
+    printing::words(b" ");
+    value(small.ask(&[], Question::word_at(second)));
+    end(otherwise);
+}
+
+// Reads the words on each side of a code length.
+fn read_words() {
+    let small = SmallIndex::of(16513, &[127, 128, 16511, 16512], 130, 8);
+    read(
+        b"The last word of one byte and the first of two are read",
+        small,
+        0,
+        1,
+        b"not 127 128: the code lengths are mixed up",
+    );
+    read(
+        b"The last word of two bytes and the first of three are read",
+        small,
+        2,
+        3,
+        b"not 16511 16512: the code lengths are mixed up",
+    );
+}
+
+// Counts by a question of the lent words 129 129.
+fn count(tried: &[u8], small: SmallIndex, question: Question, otherwise: &[u8]) {
+    start(tried);
+    value(small.ask(&[129, 129], question));
+    end(otherwise);
+}
+
+// Counts a word whose last byte stands in two nodes, a phrase with its first bytes in common with
+// the words at a place, and neighbours to the left and to the right.
+fn count_words() {
+    let small = SmallIndex::of(130, &[0, 128, 0, 129, 128], 2, 8);
+    count(
+        b"How often the word 128 stands in 0 128 0 129 128",
+        small,
+        Question::occurrences_below(128, 5),
+        b"4: its last byte is counted outside its node",
+    );
+    count(
+        b"How often the phrase 129 129 stands there",
+        small,
+        Question::phrase(0, 2),
+        b"1: a first byte in common is taken for the whole word",
+    );
+    count(
+        b"How often 129 has 0 next to it on the left there",
+        small,
+        Question::neighbours(129, 0, -1),
+        b"0: left is taken for right",
+    );
+    count(
+        b"How often 0 has 129 next to it on the right there",
+        small,
+        Question::neighbours(0, 129, 1),
+        b"not the same number: the two sides are counted differently",
+    );
+}
+
+// Prints the place on a page of one line of the phrase 7 7, and whether more follow.
+fn page_of_one(small: SmallIndex, state: Listing) -> Listing {
+    let mut line = [9u32; 1];
+    let page = small.page(state, &[7, 7], 0, 2, &mut line);
+    printing::ranks(&line);
+    if page.more {
+        printing::words(b" and more,");
+    } else {
+        printing::words(b" and the end");
+    }
+    page.listing
+}
+
+// Lists a phrase that overlaps itself, on one page and on pages of one line, and counts it.
+fn list_phrase() {
+    let small = SmallIndex::of(8, &[7; 4], 1, 4);
+    let mut lines = [9u32; 3];
+    small.page(Listing::open(), &[7, 7], 0, 2, &mut lines);
+    printing::words(b"The phrase 7 7, which overlaps itself, is listed in 7 7 7 7 at every place:");
+    printing::ranks(&lines);
+    end(b"without 1: the search moves on by the phrase's length");
+    printing::words(b"On pages of one line it is listed at");
+    let second = page_of_one(small, Listing::open());
+    let third = page_of_one(small, second);
+    page_of_one(small, third);
+    end(b"an earlier end, or a 9: the later pages are blank");
+    start(b"How often it is counted");
+    value(small.ask(&[7, 7], Question::phrase(0, 2)));
+    end(b"not 3: the count is unlike the listing");
+}
+
+fn main() {
+    printing::words(
+        b"Each line says what is tried and what came of it, and in brackets what another ",
+    );
+    printing::words(b"result would mean. A word is written as its rank.\n");
+    check_arrays();
+    read_words();
+    list_phrase();
+    count_words();
+}

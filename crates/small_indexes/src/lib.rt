@@ -1,0 +1,240 @@
+// Indexes of small texts, held by value, for the programs that try the entries: each is built once
+// and is then checked, asked and listed, whole or damaged.
+use base::Answer;
+use index::Shape;
+use listing::Listing;
+use listing::Page;
+use questions::Question;
+
+// How many elements of each array are lent.
+pub struct Sizes {
+    pub nodes: usize,
+    pub bytes: usize,
+    pub superblocks: usize,
+    pub blocks: usize,
+}
+
+// An index as it is lent to a call: the four arrays, how many elements from the front of each, V, B
+// and b; beside it the answer of building it. There is room for one node more than the largest
+// vocabulary has, 20 bytes, and ten rows of counters of each kind.
+pub struct SmallIndex {
+    pub lengths: [u32; 16514],
+    pub bytes: [u8; 20],
+    pub superblocks: [u32; 2560],
+    pub blocks: [u16; 2560],
+    pub sizes: Sizes,
+    pub shape: Shape,
+    pub answer: Answer,
+}
+
+// The parameters V, B and b of an index.
+pub fn shape_of(vocabulary: usize, block: usize, per_superblock: usize) -> Shape {
+    Shape {
+        vocabulary,
+        block,
+        per_superblock,
+    }
+}
+
+// The sizes of an index.
+pub fn sizes_of(nodes: usize, bytes: usize, superblocks: usize, blocks: usize) -> Sizes {
+    Sizes {
+        nodes,
+        bytes,
+        superblocks,
+        blocks,
+    }
+}
+
+// The first n elements of a slice, or all where it has fewer.
+fn front(s: &[u32], n: usize) -> &[u32] {
+    let count = base::least(n, s.len());
+    &s[..count]
+}
+
+// The same of bytes.
+fn front_bytes(s: &[u8], n: usize) -> &[u8] {
+    let count = base::least(n, s.len());
+    &s[..count]
+}
+
+// The same of block counters.
+fn front_blocks(s: &[u16], n: usize) -> &[u16] {
+    let count = base::least(n, s.len());
+    &s[..count]
+}
+
+// Prints the words that are lent for phrases.
+pub fn lend(words: &[u32]) {
+    printing::words(b"lent words");
+    printing::ranks(words);
+    printing::words(b"\n");
+}
+
+// Reads a passage into a slice and prints it.
+fn read(small: SmallIndex, place: usize, ranks: &mut [u32]) {
+    let answer = small.passage(place, ranks);
+    printing::words(b"passage at ");
+    printing::number(place);
+    printing::words(b" of length ");
+    printing::number(ranks.len());
+    printing::answer_with_ranks(answer, ranks);
+}
+
+impl SmallIndex {
+    // Builds the index of a text in arrays that hold nothing but 7, to be lent in these sizes.
+    pub fn built(shape: Shape, text: &[u32], sizes: Sizes) -> SmallIndex {
+        let mut lengths = [7u32; 16514];
+        let mut bytes = [7u8; 20];
+        let mut superblocks = [7u32; 2560];
+        let mut blocks = [7u16; 2560];
+        let answer = index::build(
+            shape,
+            text,
+            &mut lengths,
+            &mut bytes,
+            &mut superblocks,
+            &mut blocks,
+        );
+        SmallIndex {
+            lengths,
+            bytes,
+            superblocks,
+            blocks,
+            sizes,
+            shape,
+            answer,
+        }
+    }
+
+    // Builds the index of a text with B 256 and b 8, so that it has one row of counters of each kind.
+    pub fn of(vocabulary: usize, text: &[u32], nodes: usize, bytes: usize) -> SmallIndex {
+        SmallIndex::built(
+            shape_of(vocabulary, 256, 8),
+            text,
+            sizes_of(nodes, bytes, 256, 256),
+        )
+    }
+
+    // The same, with a line printed: V, n, the text, and the answer of building.
+    pub fn shown(vocabulary: usize, text: &[u32], nodes: usize, bytes: usize) -> SmallIndex {
+        let small = SmallIndex::of(vocabulary, text, nodes, bytes);
+        printing::words(b"V ");
+        printing::number(vocabulary);
+        printing::words(b", n ");
+        printing::number(text.len());
+        printing::words(b", text");
+        printing::ranks(text);
+        printing::answer_line(small.answer);
+        small
+    }
+
+    // The same arrays with another V, B and b.
+    pub fn with_shape(mut self, vocabulary: usize, block: usize, per: usize) -> SmallIndex {
+        self.shape = shape_of(vocabulary, block, per);
+        self
+    }
+
+    // The same arrays in other sizes.
+    pub fn with_sizes(
+        mut self,
+        nodes: usize,
+        bytes: usize,
+        upper: usize,
+        lower: usize,
+    ) -> SmallIndex {
+        self.sizes = sizes_of(nodes, bytes, upper, lower);
+        self
+    }
+
+    // Checks the index.
+    pub fn check(self) -> Answer {
+        let lengths = self.lengths;
+        let bytes = self.bytes;
+        let superblocks = self.superblocks;
+        let blocks = self.blocks;
+        index::check(
+            self.shape,
+            front(&lengths, self.sizes.nodes),
+            front_bytes(&bytes, self.sizes.bytes),
+            front(&superblocks, self.sizes.superblocks),
+            front_blocks(&blocks, self.sizes.blocks),
+        )
+    }
+
+    // Asks a question of the index.
+    pub fn ask(self, words: &[u32], question: Question) -> Answer {
+        let lengths = self.lengths;
+        let bytes = self.bytes;
+        let superblocks = self.superblocks;
+        let blocks = self.blocks;
+        questions::ask(
+            self.shape,
+            front(&lengths, self.sizes.nodes),
+            front_bytes(&bytes, self.sizes.bytes),
+            front(&superblocks, self.sizes.superblocks),
+            front_blocks(&blocks, self.sizes.blocks),
+            words,
+            question,
+        )
+    }
+
+    // Reads a passage of the index.
+    pub fn passage(self, place: usize, ranks: &mut [u32]) -> Answer {
+        let lengths = self.lengths;
+        let bytes = self.bytes;
+        let superblocks = self.superblocks;
+        let blocks = self.blocks;
+        questions::passage(
+            self.shape,
+            front(&lengths, self.sizes.nodes),
+            front_bytes(&bytes, self.sizes.bytes),
+            front(&superblocks, self.sizes.superblocks),
+            front_blocks(&blocks, self.sizes.blocks),
+            place,
+            ranks,
+        )
+    }
+
+    // Prints how often a part of the lent words stands.
+    pub fn show_count(self, words: &[u32], start: usize, length: usize) {
+        printing::words(b"phrase from ");
+        printing::number(start);
+        printing::words(b" of length ");
+        printing::number(length);
+        printing::answer_line(self.ask(words, Question::phrase(start, length)));
+    }
+
+    // Prints a passage of so many words, at most 20, read into a slice that held nothing but 7.
+    pub fn show_passage(self, place: usize, length: usize) {
+        let mut ranks = [7u32; 20];
+        let count = base::least(length, 20);
+        read(self, place, &mut ranks[..count]);
+    }
+
+    // Writes the next page of a listing of a phrase.
+    pub fn page(
+        self,
+        state: Listing,
+        words: &[u32],
+        start: usize,
+        count: usize,
+        lines: &mut [u32],
+    ) -> Page {
+        let lengths = self.lengths;
+        let bytes = self.bytes;
+        let superblocks = self.superblocks;
+        let blocks = self.blocks;
+        state.page(
+            self.shape,
+            front(&lengths, self.sizes.nodes),
+            front_bytes(&bytes, self.sizes.bytes),
+            front(&superblocks, self.sizes.superblocks),
+            front_blocks(&blocks, self.sizes.blocks),
+            words,
+            start,
+            count,
+            lines,
+        )
+    }
+}
