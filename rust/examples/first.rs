@@ -6,7 +6,7 @@ fn main() -> Result<(), Refused> {
     let text = read_text(list, b"The cat sat on the mat. The cat sat.")?;
     println!("words read: {}", text.len());
 
-    let index = Index::build(Shape::of(5), &text)?;
+    let index = Index::build(Shape::for_text(5, text.len()), &text)?;
     println!("bytes of the index: {}", index.arrays().bytes.len());
 
     let phrase = [0, 1]; // the cat
@@ -17,9 +17,10 @@ fn main() -> Result<(), Refused> {
     }
     println!("\"sat\" stands {} times before place 6", index.ask(&[], Question::occurrences_below(2, 6))?);
 
+    let shape = index.shape();
     let mut arrays: Arrays = index.into_arrays();
     arrays.bytes[0] = 5; // a byte that says that another follows
-    match Index::from_arrays(Shape::of(5), arrays) {
+    match Index::from_arrays(shape, arrays) {
         Ok(_) => println!("the damaged index passed"),
         Err(refused) => println!("with one byte changed: {refused}"),
     }

@@ -24,9 +24,14 @@ pub struct Index {
 }
 
 impl Shape {
-    /// A shape with the usual block lengths.
-    pub fn of(vocabulary: usize) -> Shape {
-        Shape { vocabulary, block: 256, per_superblock: 8 }
+    /// The block lengths that were measured to be good for a text of so many words, in space and in time (docs/BENCHMARKS.md).
+    pub fn for_text(vocabulary: usize, words: usize) -> Shape {
+        let block = match words {
+            0..=2_000_000 => 256,
+            2_000_001..=8_000_000 => 512,
+            _ => 1024,
+        };
+        Shape { vocabulary, block, per_superblock: 8 }
     }
 }
 

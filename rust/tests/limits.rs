@@ -29,7 +29,7 @@ fn longest_text() -> Vec<u32> {
 #[test]
 fn most_words() {
     let mut text = longest_text();
-    let shape = Shape::of(MAX_VOCABULARY);
+    let shape = Shape::for_text(MAX_VOCABULARY, MAX_WORDS);
     let index = Index::build(shape, &text).expect("the longest text is one");
     assert_eq!(index.words(), MAX_WORDS);
     let frequency = text.iter().filter(|&&word| word == 7).count();
@@ -141,7 +141,7 @@ fn superblocks() {
 #[test]
 fn offsets_phrases_and_pages() {
     let text: Vec<u32> = (0..40).collect();
-    let index = Index::build(Shape::of(40), &text).unwrap();
+    let index = Index::build(Shape::for_text(40, text.len()), &text).unwrap();
     let refusal = |question, words: &[u32]| index.ask(words, question).map_err(|refused| refused.refusal.number());
     assert_eq!(refusal(Question::neighbours(0, 16, 16), &[]), Ok(1));
     assert_eq!(refusal(Question::neighbours(16, 0, -16), &[]), Ok(1));

@@ -1,17 +1,7 @@
 // What the programs print of answers, bytes, ranks and cases, to standard output.
 use base::Answer;
+use formatting::digit;
 use libc::STDOUT_FILENO;
-ghost use mathlib.Core.Path.{_≡_};
-ghost use Prim.Native.Nat.{_<_};
-ghost use Rattle.printing.specs.Digits.{digitOf};
-
-// The digit of a number below 16: 0 to 9, A to F.
-pub fn digit(n: usize) -> u8
-    requires { ⌜ n < 16 ⌝ }
-    ensures { λ r. ⌜ r ≡ digitOf n ⌝ }
-{
-    if n < 10 { 48 + n as u8 } else { 55 + n as u8 }
-}
 
 // Writes fixed words.
 pub fn words(text: &[u8]) {

@@ -1,9 +1,9 @@
--- `printing::digit` meets its contract. Assumes nothing.
+-- `formatting::digit` meets its contract. Assumes nothing.
 use mathlib.Core.Path.{sym}
 use borrow.Author.Needs.{needs}
 use Rattle.base.proofs.Tests.{cond-below, cond-not-below}
-use Rattle.printing.proofs.digit.Statement.{statement}
-use Rattle.printing.proofs.digit.Tie as tie
+use Rattle.formatting.proofs.digit.Statement.{statement}
+use Rattle.formatting.proofs.digit.Tie as tie
 
 cast-result : tie.Need-cast-result
 cast-result c = search needs
