@@ -77,11 +77,7 @@ fn show(name: &[u8], stream: &[u8]) {
 fn lend(name: &[u8], stream: &[u8], output: &mut [u8]) {
     let answer = node_listing::write_listing(stream, output);
     printing::words(name);
-    printing::words(b": ");
-    printing::answer(answer);
-    printing::words(b":");
-    printing::bytes(output);
-    printing::words(b"\n");
+    printing::answer_with_bytes(answer, output);
 }
 
 // Fills a slice with words of one byte: ranks 0 to 127 over and over.
