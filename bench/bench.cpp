@@ -306,8 +306,11 @@ static void plot(const char *file) {
 }
 
 int main(int count, char **arguments) {
-    const uint32_t block = count > 1 ? std::atoi(arguments[1]) : 256, per = count > 2 ? std::atoi(arguments[2]) : 8;
+    const bool given = count > 2;
     std::printf("| words | measured | engine, ms | beside | its time, ms | ratio |\n|---|---|---|---|---|---|\n");
-    for (size_t n : {1000000, 4000000, 16000000}) measure(n, block, per, count <= 1);
+    for (size_t n : {1000000, 4000000, 16000000}) {
+        const uint32_t usual = n <= 2000000 ? 256 : n <= 8000000 ? 512 : 1024;
+        measure(n, given ? std::atoi(arguments[1]) : usual, given ? std::atoi(arguments[2]) : 8, !given);
+    }
     plot("times.svg");
 }

@@ -60,3 +60,11 @@ byte-product-digits a c x y h l m n =
     let q : c * x + y ≤ 65280 = omega arith in
     let r : a * (c * x + y) ≤ 255 * 65280 = mul-le-mul h q in
     omega arith
+
+-- a node that two continuing bytes lead to at most, times the number of closing or of continuing values
+pub node-products : (s node : ℕ) → 1 ≤ s → s ≤ 255 → node ≤ (256 - s) * (256 - s) + (256 - s) → (s * node ≤ 16646400) × ((256 - s) * node ≤ 16646400)
+node-products s node l h m =
+    let n : node ≤ 65280 = omega (arith, small s l h .square, small s l h .others) in
+    let p : s * node ≤ 255 * 65280 = mul-le-mul h n in
+    let q : (256 - s) * node ≤ 255 * 65280 = mul-le-mul (small s l h .others) n in
+    (omega arith, omega arith)

@@ -8,7 +8,7 @@ use native.Mathlib.Numerals.{add-one}
 use native.Mathlib.Omega.{arith}
 use borrow.Author.Tests.{le-leb, lt-leb, leb-true, leb-false, not-false}
 use lib.ListN.{length, take, drop, getD, length-append, length-take, length-map, take-append-drop}
-use lib.Seq.{take-suc}
+use lib.Seq.{take-suc, take-add}
 use Rattle.base.specs.Lists.{All, Below, total, allPass, filterBy, cutAfter}
 use Rattle.base.specs.Answers.{written, front}
 use Rattle.base.proofs.Fronts.{front-more}
@@ -100,6 +100,24 @@ closings-more s bytes i h =
     one : (t : Bool) → length (cond t (getD bytes i 0 ∷ []) []) ≡ cond t 1 0
     one true = refl
     one false = refl
+
+-- the first i bytes and the n after them
+pub closings-part : (s i n : ℕ) (bytes : List ℕ) → closings s (take (i + n) bytes) ≡ closings s (take i bytes) + closings s (take n (drop i bytes))
+unfolding closings
+closings-part s i n bytes =
+    ap (λ (xs : List ℕ). length (filterBy (closes s) xs)) (take-add i n bytes)
+    ∙ ap length (filter-append (closes s) (take i bytes) (take n (drop i bytes)))
+    ∙ length-append (filterBy (closes s) (take i bytes)) (filterBy (closes s) (take n (drop i bytes)))
+
+-- never more than there are bytes
+pub closings-most : (s : ℕ) (bytes : List ℕ) → closings s bytes ≤ length bytes
+unfolding closings
+closings-most s [] = omega arith
+closings-most s (b ∷ bs) = go (closes s b) (closings-most s bs)
+  where
+    go : (t : Bool) → length (filterBy (closes s) bs) ≤ length bs → length (cond t (b ∷ filterBy (closes s) bs) (filterBy (closes s) bs)) ≤ suc (length bs)
+    go true h = omega arith
+    go false h = omega arith
 
 -- codewords one after another have a closing byte each
 pub closings-words : (s : ℕ) (ws : List (List ℕ)) → All (Word s) ws → closings s (flatten ws) ≡ length ws

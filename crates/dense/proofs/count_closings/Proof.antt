@@ -1,59 +1,71 @@
 -- `dense::count_closings` meets its contract. The loop's invariant: the closing bytes passed are counted. Assumes nothing.
-use Prim.Native.Nat.{_+_, _≤_, _<_, _-_}
-use mathlib.Core.Path.{refl, sym, ap, _∙_, _≡_}
-use mathlib.Core.Bool.{Bool, cond}
-use mathlib.Core.Logic.{⊎-elim}
-use native.Mathlib.Numerals.{add-one}
+use Prim.Native.Nat.{_+_, _≤_, _-_}
+use mathlib.Core.Path.{_≡_, refl, ap, _∙_}
 use native.Mathlib.Omega.{arith}
-use borrow.Author.Tests.{le-leb, lt-leb}
 use borrow.Author.Needs.{needs}
-use lib.ListN.{take, length}
+use lib.ListN.{length, take, drop, length-take}
 use lib.Seq.{take-all}
 use Rattle.dense.specs.Streams.{closings}
-use Rattle.dense.proofs.Streams.{closings-more}
+use Rattle.dense.proofs.Streams.{closings-part, closings-most}
 use Rattle.dense.proofs.count_closings.Statement.{statement}
 use Rattle.dense.proofs.count_closings.Tie as tie
 
 abbrev Inv-loop : tie.InvT-loop
-Inv-loop s stream least found₀ at₀ found at = (at ≤ length stream) × (found ≤ at) × (found ≡ closings s (take at stream))
+Inv-loop s stream found₀ at₀ found at = (at ≤ length stream) × (found ≡ closings s (take at stream))
 
 abbrev μ-loop : tie.MeasureT-loop
-μ-loop s stream least found₀ at₀ found at = length stream - at
+μ-loop s stream found₀ at₀ found at = length stream - at
 
-sub-least : tie.Need-sub-least Inv-loop μ-loop
-sub-least c = search needs
+-- with the part from the position on the count is that of the bytes before the stop
+counted : (c : tie.After-count-few Inv-loop μ-loop) → let a = c .before .before .before .before .before .before .args in c .before .before .before .before .loop .found + c .count-few .result ≡ closings (a .s) (take (c .before .before .least .result) (a .stream .now))
+counted c =
+    let a = c .before .before .before .before .before .before .args in
+    let loop = c .before .before .before .before .loop in
+    let stop = c .before .before .least .result in
+    let e : loop .at + (stop - loop .at) ≡ stop = omega (arith, c .before .before .least .ensures) in
+    rw (loop .inv .1, c .count-few .ensures, ← closings-part (a .s) (loop .at) (stop - loop .at) (a .stream .now), e)
 
 loop-holds : tie.Need-loop-holds Inv-loop μ-loop
 unfolding closings
-loop-holds c = (omega arith, omega arith, refl)
+loop-holds c = (omega arith, refl)
 
-shared-slice-read-byte : tie.Need-shared-slice-read-byte Inv-loop μ-loop
-shared-slice-read-byte c = search needs
+add-least : tie.Need-add-least Inv-loop μ-loop
+add-least c = search needs
 
-cast-byte : tie.Need-cast-byte Inv-loop μ-loop
-cast-byte c = omega (arith, c .shared-slice-known .given (c .before .before .loop .at))
+least-requires : tie.Need-least-requires Inv-loop μ-loop
+least-requires c κs = search needs
+
+sub-count-few : tie.Need-sub-count-few Inv-loop μ-loop
+sub-count-few c = search needs
+
+part-count-few-start : tie.Need-part-count-few-start Inv-loop μ-loop
+part-count-few-start c = search needs
+
+part-count-few-end : tie.Need-part-count-few-end Inv-loop μ-loop
+part-count-few-end c = search needs
+
+count-few-requires : tie.Need-count-few-requires Inv-loop μ-loop
+count-few-requires c κs = let start = c .before .before .before .before .before in
+    let loop = c .before .before .before .loop in
+    (start .pre, omega (arith, length-take (c .before .least .result - loop .at) (drop (loop .at) (start .args .stream .now)), c .before .least .ensures))
+
+cast-found : tie.Need-cast-found Inv-loop μ-loop
+cast-found c = search needs
 
 add-found : tie.Need-add-found Inv-loop μ-loop
-add-found c = omega arith
-
-add-at : tie.Need-add-at Inv-loop μ-loop
-add-at c = search needs
+add-found c = let a = c .before .before .before .before .before .before .args in
+    let passed = take (c .before .before .least .result) (a .stream .now) in
+    omega (arith, counted c, closings-most (a .s) passed, length-take (c .before .before .least .result) (a .stream .now))
 
 loop-less : tie.Need-loop-less Inv-loop μ-loop
 loop-less c = search needs
 
 loop-again : tie.Need-loop-again Inv-loop μ-loop
-loop-again c = let start = c .before .before .before .before in
-    let loop = c .before .before .before .loop in
-    let h : loop .at < length (start .args .stream .now) = c .before .before .loop-test .taken in
-    let more = rw (← add-one (loop .at)) at (closings-more (start .args .s) (start .args .stream .now) (loop .at) h) in
-    ⊎-elim
-    (λ w. (omega arith, omega (arith, w .1), w .1 ∙ sym (more ∙ ap (λ (t : Bool). closings (start .args .s) (take (loop .at) (start .args .stream .now)) + cond t 1 0) (le-leb _ _ (w .0 .taken)) ∙ omega (arith, loop .inv .2))))
-    (λ w. (omega arith, omega (arith, w .1), w .1 ∙ sym (more ∙ ap (λ (t : Bool). closings (start .args .s) (take (loop .at) (start .args .stream .now)) + cond t 1 0) (lt-leb _ _ (w .0 .left)) ∙ omega (arith, loop .inv .2))))
-    (c .if1 .came)
+loop-again c = (omega arith, omega (arith, counted c))
 
 returns : tie.Need-returns Inv-loop μ-loop
-returns c = c .before .loop .inv .2 ∙ ap (closings (c .before .before .args .s)) (take-all (c .before .loop .at) (c .before .before .args .stream .now) (omega arith))
+returns c = let start = c .before .before .before in
+    c .before .loop .inv .1 ∙ ap (closings (start .args .s)) (take-all (c .before .loop .at) (start .args .stream .now) (omega arith))
 
 pub count-closings-spec : {M : Type 1} → statement M
 count-closings-spec =
@@ -61,12 +73,15 @@ count-closings-spec =
     (tie.spec
     Inv-loop
     μ-loop
-    sub-least
     loop-holds
-    shared-slice-read-byte
-    cast-byte
+    add-least
+    least-requires
+    sub-count-few
+    part-count-few-start
+    part-count-few-end
+    count-few-requires
+    cast-found
     add-found
-    add-at
     loop-less
     loop-again
     returns)
