@@ -154,18 +154,33 @@ static void reading(const std::vector<uint32_t> &text) {
     for (uint32_t word : text) plain += spelling(word) + ' ';
     const double read = seconds(1, [&] {
         const auto answer = concordance_read_text((const uint8_t *)list.data(), list.size(), (const uint8_t *)plain.data(), plain.size(), ours.data(), ours.size());
-        must(answer.refusal == 0 && ours == text, "plain text");
+        must(answer.refusal == 0, "plain text");
     });
+    const double hashed = seconds(1, [&] { must(twin::read_text(list, plain, theirs), "plain text"); });
+    must(ours == text && theirs == text, "plain text");
+    table.add(text.size(), "reading plain text", read, "twin", hashed);
     std::printf("reading plain text of %zu words, %u listed: %.1f MB/s\n", text.size(), vocabulary, plain.size() / read / 1e6);
 }
 
 // Phrases in libsdsl: along the rarest word in an integer wavelet tree, and in a compressed suffix array.
-static void libsdsl(const std::vector<uint32_t> &text, const Asked &asked, const std::vector<uint32_t> &counts, double ours) {
+static void libsdsl(const std::vector<uint32_t> &text, const Asked &asked, const std::vector<uint32_t> &counts, const double *spent) {
+    const double ours = spent[5];
     sdsl::int_vector<> ranks(text.size(), 0, 17);
     for (size_t i = 0; i < text.size(); i++) ranks[i] = text[i] + 1;
     sdsl::wt_int<> tree;
     std::printf("libsdsl wt_int: built in %.3f s", seconds(1, [&] { sdsl::construct_im(tree, ranks); }));
     std::printf(", %.2f bytes a word\n", double(sdsl::size_in_bytes(tree)) / text.size());
+    table.add(text.size(), "sheet of kind 1, 20000 questions", spent[1], "libsdsl wt_int", seconds(1, [&] {
+        for (const auto &q : asked.kinds[1]) must(tree[q.p] == text[q.p] + 1, "wt_int");
+    }));
+    uint64_t sum = 0;
+    table.add(text.size(), "sheet of kind 2, 20000 questions", spent[2], "libsdsl wt_int", seconds(1, [&] {
+        for (const auto &q : asked.kinds[2]) sum += tree.rank(q.p, q.w + 1);
+    }));
+    table.add(text.size(), "sheet of kind 3, 20000 questions", spent[3], "libsdsl wt_int", seconds(1, [&] {
+        for (const auto &q : asked.kinds[3]) must(text[tree.select(q.p, q.w + 1)] == q.w, "wt_int");
+    }));
+    must(sum > 0, "wt_int");
     const auto &qs = asked.kinds[5];
     const double along = seconds(1, [&] {
         for (size_t q = 0; q < qs.size(); q++) {
@@ -200,7 +215,8 @@ static void libsdsl(const std::vector<uint32_t> &text, const Asked &asked, const
     table.add(text.size(), "phrases, 400 counts", ours, "libsdsl csa_wt_int", counted);
 }
 
-static void inverted(const std::vector<uint32_t> &text, const Asked &asked, const std::vector<uint32_t> &counts, double ours) {
+static void inverted(const std::vector<uint32_t> &text, const Asked &asked, const std::vector<uint32_t> &counts, const double *spent) {
+    const double ours = spent[5];
     Inverted *index = nullptr;
     const double built = seconds(1, [&] { index = new Inverted(text, vocabulary); });
     std::printf("inverted index: built in %.3f s, %.2f bytes a word\n", built, double(index->space()) / text.size());
@@ -209,6 +225,11 @@ static void inverted(const std::vector<uint32_t> &text, const Asked &asked, cons
             must(index->phrase(&asked.words[asked.kinds[5][q].start], asked.kinds[5][q].length) == counts[q], "inverted");
     });
     table.add(text.size(), "phrases, 400 counts", ours, "inverted index", counted);
+    uint64_t sum = 0;
+    table.add(text.size(), "sheet of kind 4, 400 questions", spent[4], "inverted index", seconds(3, [&] {
+        for (const auto &q : asked.kinds[4]) sum += index->neighbours(q.w, q.v, q.d);
+    }));
+    must(sum > 0, "inverted");
     delete index;
 }
 
@@ -231,8 +252,11 @@ static void fts5(const std::vector<uint32_t> &text, const Asked &asked, double o
         sqlite3_finalize(insert);
         sqlite3_exec(db, "COMMIT", nullptr, nullptr, nullptr);
     });
-    std::printf("SQLite FTS5: built in %.3f s\n", built);
     sqlite3_stmt *ask;
+    sqlite3_prepare_v2(db, "SELECT page_count * page_size FROM pragma_page_count, pragma_page_size", -1, &ask, nullptr);
+    sqlite3_step(ask);
+    std::printf("SQLite FTS5: built in %.3f s, %.2f bytes a word\n", built, double(sqlite3_column_int64(ask, 0)) / text.size());
+    sqlite3_finalize(ask);
     sqlite3_prepare_v2(db, "SELECT count(*) FROM t WHERE t MATCH ?", -1, &ask, nullptr);
     const double counted = seconds(1, [&] {
         for (const auto &q : asked.kinds[5]) {
@@ -271,8 +295,8 @@ static void measure(size_t n, uint32_t block, uint32_t per, bool peers) {
     const twin::Index index(engine.a);
     std::vector<uint32_t> counts;
     for (const auto &q : asked.kinds[5]) counts.push_back(answer(index, q, asked));
-    inverted(text, asked, counts, spent[5]);
-    libsdsl(text, asked, counts, spent[5]);
+    inverted(text, asked, counts, spent);
+    libsdsl(text, asked, counts, spent);
     fts5(text, asked, spent[5]);
 }
 
@@ -281,7 +305,7 @@ static void plot(const char *file) {
     std::ofstream out(file);
     out << "<svg xmlns=\"http://www.w3.org/2000/svg\" viewBox=\"0 0 760 420\" font-family=\"sans-serif\" font-size=\"11\">\n"
         << "<text x=\"20\" y=\"20\" font-size=\"14\">Seconds of a call against the words of the text (both in powers of ten): engine solid, twin dashed</text>\n";
-    const char *colours[] = {"#1b6ca8", "#c0392b", "#2e8b57", "#8e44ad", "#b8860b", "#444444", "#e67e22", "#16a085", "#7f8c8d", "#d35400"};
+    const char *colours[] = {"#1b6ca8", "#c0392b", "#2e8b57", "#8e44ad", "#b8860b", "#444444", "#e67e22", "#16a085", "#7f8c8d", "#d35400", "#e84393"};
     auto x = [](double words) { return 60 + 360 * (std::log10(words) - 6) / 1.3; };
     auto y = [](double time) { return 380 - 54 * (std::log10(time) + 4); };
     std::vector<std::string> names;
@@ -294,7 +318,7 @@ static void plot(const char *file) {
             engine += std::to_string(x(line.words)) + "," + std::to_string(y(line.engine)) + " ";
             twin += std::to_string(x(line.words)) + "," + std::to_string(y(line.peer)) + " ";
         }
-        const char *colour = colours[i % 10];
+        const char *colour = colours[i % 11];
         out << "<polyline points=\"" << engine << "\" fill=\"none\" stroke=\"" << colour << "\" stroke-width=\"1.6\"/>\n"
             << "<polyline points=\"" << twin << "\" fill=\"none\" stroke=\"" << colour << "\" stroke-dasharray=\"4 3\"/>\n"
             << "<text x=\"460\" y=\"" << 60 + 18 * i << "\" fill=\"" << colour << "\">" << names[i] << "</text>\n";

@@ -91,12 +91,7 @@ extern "C" {
         stream_len: usize,
     ) -> Answer;
 
-    pub fn concordance_read_stream(
-        stream: *const u8,
-        stream_len: usize,
-        text: *mut u32,
-        text_len: usize,
-    ) -> Answer;
+    pub fn concordance_read_stream(stream: *const u8, stream_len: usize, text: *mut u32, text_len: usize) -> Answer;
 
     pub fn concordance_build(
         shape: Shape,

@@ -138,11 +138,7 @@ impl Index {
     }
 
     /// Answers a sheet of questions, in order; the check is made once.
-    pub fn answer_sheet(
-        &self,
-        words: &[u32],
-        questions: &[Question],
-    ) -> Result<Vec<Result<u32, Refusal>>, Refused> {
+    pub fn answer_sheet(&self, words: &[u32], questions: &[Question]) -> Result<Vec<Result<u32, Refusal>>, Refused> {
         let a = &self.arrays;
         let mut answers = vec![0; 2 * questions.len()];
         let answer = unsafe {

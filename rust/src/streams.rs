@@ -18,9 +18,7 @@ pub fn write_stream(vocabulary: usize, text: &[u32]) -> Result<Vec<u8>, Refused>
 /// The text of a stream.
 pub fn read_stream(stream: &[u8]) -> Result<Vec<u32>, Refused> {
     let mut text = vec![0; stream.iter().filter(|&&byte| byte >= 0x80).count()];
-    let answer = unsafe {
-        ffi::concordance_read_stream(stream.as_ptr(), stream.len(), text.as_mut_ptr(), text.len())
-    };
+    let answer = unsafe { ffi::concordance_read_stream(stream.as_ptr(), stream.len(), text.as_mut_ptr(), text.len()) };
     text.truncate(answer.result()?);
     Ok(text)
 }

@@ -14,7 +14,11 @@ fn longest_text() -> Vec<u32> {
     let mut text: Vec<u32> = (0..MAX_WORDS)
         .map(|_| {
             let number = random.next();
-            if number % 8 == 0 { 128 + (number >> 8) as u32 % 200 } else { (number >> 8) as u32 % 100 }
+            if number % 8 == 0 {
+                128 + (number >> 8) as u32 % 200
+            } else {
+                (number >> 8) as u32 % 100
+            }
         })
         .collect();
     for place in [5, MAX_WORDS - 2] {

@@ -75,11 +75,8 @@ fn run(random: &mut Random) {
     for _ in 0..random.below(12) {
         let turned_down = random.once_in(3);
         let lines = if random.once_in(6) { 0 } else { random.between(1, 4) };
-        let (got, places) = if turned_down {
-            page(state, &bad(random, &good), lines)
-        } else {
-            page(state, &good, lines)
-        };
+        let (got, places) =
+            if turned_down { page(state, &bad(random, &good), lines) } else { page(state, &good, lines) };
         if turned_down || lines == 0 {
             assert_ne!(got.answer.refusal, 0);
             assert_eq!(got.listing, state);

@@ -22,7 +22,11 @@ fn ask() {
             let words = inputs::words(&mut random, vocabulary, &text);
             let question = inputs::question(&mut random, vocabulary, &text, &words);
             let answer = calls::ask(shape, &arrays, &words, question);
-            assert_eq!(answer, reference::ask(shape, &arrays, &words, question), "{shape:?}, {text:?}, {words:?}, {question:?}");
+            assert_eq!(
+                answer,
+                reference::ask(shape, &arrays, &words, question),
+                "{shape:?}, {text:?}, {words:?}, {question:?}"
+            );
             accepted += usize::from(answer.refusal == 0);
         }
     }
@@ -50,7 +54,11 @@ fn answer_sheet() {
         let mut ours = vec![0x5555_5555; room];
         let mut theirs = ours.clone();
         let answer = calls::answer_sheet(shape, &arrays, &words, &questions, &mut ours);
-        assert_eq!(answer, reference::answer_sheet(shape, &arrays, &words, &questions, &mut theirs), "{shape:?}, {text:?}");
+        assert_eq!(
+            answer,
+            reference::answer_sheet(shape, &arrays, &words, &questions, &mut theirs),
+            "{shape:?}, {text:?}"
+        );
         assert_eq!(ours, theirs, "{shape:?}, {text:?}, {words:?}, {questions:?}");
         if answer.refusal == 0 {
             for (question, pair) in questions.iter().zip(ours.chunks(2)) {

@@ -141,13 +141,6 @@ pub fn page(
 
 pub fn read_text(list: &[u8], text: &[u8], into: &mut [u32]) -> Answer {
     unsafe {
-        ffi::concordance_read_text(
-            list.as_ptr(),
-            list.len(),
-            text.as_ptr(),
-            text.len(),
-            into.as_mut_ptr(),
-            into.len(),
-        )
+        ffi::concordance_read_text(list.as_ptr(), list.len(), text.as_ptr(), text.len(), into.as_mut_ptr(), into.len())
     }
 }

@@ -38,7 +38,16 @@ pub fn shape(random: &mut Random, vocabulary: usize) -> Shape {
 /// A shape that may be outside its limits.
 pub fn any_shape(random: &mut Random) -> Shape {
     let vocabulary = any_vocabulary(random);
-    let wild = [(0, 8), (8, 0), (256, 256), (65_535, 1), (65_536, 1), (1, 65_535), (usize::MAX, usize::MAX), (1 << 33, 1 << 33)];
+    let wild = [
+        (0, 8),
+        (8, 0),
+        (256, 256),
+        (65_535, 1),
+        (65_536, 1),
+        (1, 65_535),
+        (usize::MAX, usize::MAX),
+        (1 << 33, 1 << 33),
+    ];
     if random.once_in(12) {
         let (block, per_superblock) = random.one_of(&wild);
         return Shape { vocabulary, block, per_superblock };

@@ -281,7 +281,11 @@ fn answer(vocabulary: usize, text: &[u32], words: &[u32], question: Question) ->
         3 if unknown(w) => refused(9),
         3 => {
             let places: Vec<usize> = (0..text.len()).filter(|&q| text[q] == w).collect();
-            if p >= 1 && p <= places.len() { accepted(places[p - 1]) } else { refused(11) }
+            if p >= 1 && p <= places.len() {
+                accepted(places[p - 1])
+            } else {
+                refused(11)
+            }
         }
         4 if unknown(w) || unknown(v) => refused(9),
         4 if !(-16..=16).contains(&d) => refused(10),
@@ -306,13 +310,7 @@ pub fn ask(shape: Shape, arrays: &Arrays, words: &[u32], question: Question) -> 
     }
 }
 
-pub fn answer_sheet(
-    shape: Shape,
-    arrays: &Arrays,
-    words: &[u32],
-    questions: &[Question],
-    into: &mut [u32],
-) -> Answer {
+pub fn answer_sheet(shape: Shape, arrays: &Arrays, words: &[u32], questions: &[Question], into: &mut [u32]) -> Answer {
     let text = match lent(shape, arrays) {
         Ok(text) => text,
         Err(refusal) => return refusal,
