@@ -8,7 +8,7 @@ use native.Mathlib.Omega.{arith}
 use lib.ListN.{length, getD, take, drop}
 use Rattle.base.specs.Lists.{countOf, nth}
 use Rattle.base.proofs.Tests.{below-or-not}
-use Rattle.base.proofs.Counts.{nth-part}
+use Rattle.base.proofs.Counts.{count-part, nth-part}
 use Rattle.directory.specs.Counters.{Sizes, Directory}
 use Rattle.directory.specs.Tables.{LastRow}
 use Rattle.base.proofs.Parts.{quotient-inside, inside-quotient, part-cut}
@@ -29,6 +29,22 @@ pub last-left : {table : List ℕ} {x j first end low high : ℕ} → Left table
 last-left {end = end} {low = low} {high = high} l h =
     let e : suc low ≡ high = omega arith in
     record { from = l .from; inside = omega arith; most = l .most; more = λ (k : suc low < end). rw e (l .more (omega arith)) }
+
+-- the last row before end is the last of all rows, where row end has more than j or is none
+pub last-of-all : {table : List ℕ} {x j first end r : ℕ} (rows : ℕ) → LastRow table x j first end r → end ≤ rows → (end < rows → j < getD table (end * 256 + x) 0)
+    → LastRow table x j 0 rows r
+last-of-all {table} {x} {j} {first} {end} {r} rows f to past = record {
+  from = omega arith;
+  inside = omega (arith, f .inside);
+  most = f .most;
+  more = λ h. go h (below-or-not (suc r) end);
+}
+  where
+    go : suc r < rows → (suc r < end) ⊎ (end ≤ suc r) → j < getD table (suc r * 256 + x) 0
+    go h (inl k) = f .more k
+    go h (inr g) =
+        let e : suc r ≡ end = omega (arith, f .inside) in
+        rw e (past (rw e at h))
 
 -- part r of the bytes, of m bytes each, is where the x with j others before it would stand: at most j before the part, and more
 -- before the next, if there is one
@@ -61,6 +77,18 @@ pub position : {m : ℕ} {bytes : List ℕ} {x j r : ℕ} (stop : ℕ) → Holds
 position {m} {bytes} {x} {j} {r} stop h e =
     rw (part-cut bytes (r * m) m stop (h .here) e)
     (sym (nth-part x j (r * m) m bytes (h .here) (h .most) (λ (k : r * m + m < length bytes). rw (suc-mul r m) at (h .next (rw (suc-mul r m) (omega arith))))))
+
+-- the position in the bytes from start to stop, past the bytes before start, with left of j after those: the bytes before stop have it, or
+-- stop is their end
+pub position-from : (bytes : List ℕ) (x j left start stop : ℕ) → start ≤ length bytes → start ≤ stop → countOf x (take start bytes) + left ≡ j
+    → (stop < length bytes → left < countOf x (take (stop - start) (drop start bytes)))
+    → start + nth x left (take (stop - start) (drop start bytes)) ≡ nth x j bytes
+position-from bytes x j left start stop here after is past =
+    let rest : j - countOf x (take start bytes) ≡ left = omega arith in
+    let whole : start + (stop - start) ≡ stop = omega arith in
+    rw (← rest)
+    (sym (nth-part x j start (stop - start) bytes here (omega arith)
+    (λ (k : start + (stop - start) < length bytes). omega (arith, count-part x start (stop - start) bytes, past (omega arith)))))
 
 -- ---- the two searches of `nth`
 

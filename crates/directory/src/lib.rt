@@ -2,7 +2,7 @@
 // where the occurrence stands that has j others before it. The directory has rows of 256 numbers,
 // one a superblock and one a block. Inner functions: their callers have checked the directory.
 ghost use mathlib.Core.Path.{_≡_};
-ghost use Prim.Native.Nat.{_+_, _*_, _≤_, _<_};
+ghost use Prim.Native.Nat.{_+_, _*_, _/_, _≤_, _<_};
 ghost use lib.ListN.{length, getD, take};
 ghost use Rattle.base.specs.Lists.{countOf, nth as nthOf};
 ghost use Rattle.directory.specs.Counters.{Sizes, Directory};
@@ -39,15 +39,15 @@ pub fn count_in(part: &[u8], byte: u8) -> usize
     found
 }
 
-// The position in a block of the occurrence of a byte that has j others before it, past which no
-// byte is read; the block's length where there is none.
-pub fn scan(block: &[u8], byte: u8, j: usize) -> usize
-    ensures { λ r. ⌜ r ≡ nthOf byte j (now (block .entry)) ⌝ }
+// The position in a piece of a block of the occurrence of a byte that has j others before it, past
+// which no byte is read; the piece's length where there is none.
+fn scan_piece(piece: &[u8], byte: u8, j: usize) -> usize
+    ensures { λ r. ⌜ r ≡ nthOf byte j (now (piece .entry)) ⌝ }
 {
     let mut left = j;
     let mut i = 0;
-    while i < block.len() {
-        if block[i] == byte {
+    while i < piece.len() {
+        if piece[i] == byte {
             if left == 0 {
                 return i;
             }
@@ -56,6 +56,26 @@ pub fn scan(block: &[u8], byte: u8, j: usize) -> usize
         i += 1;
     }
     i
+}
+
+// The position in a block of the occurrence of a byte that has j others before it; the block's
+// length where there is none. Pieces of 64 bytes are counted, and the one with the occurrence is read
+// byte by byte.
+pub fn scan(block: &[u8], byte: u8, j: usize) -> usize
+    ensures { λ r. ⌜ r ≡ nthOf byte j (now (block .entry)) ⌝ }
+{
+    let mut left = j;
+    let mut start: usize = 0;
+    while 64 < block.len() - start {
+        let stop = start + 64;
+        let here = count_few(&block[start..stop], byte) as usize;
+        if left < here {
+            return start + scan_piece(&block[start..stop], byte, left);
+        }
+        left -= here;
+        start = stop;
+    }
+    start + scan_piece(&block[start..], byte, left)
 }
 
 // A `u32` as a `usize`.
@@ -106,6 +126,43 @@ fn search_superblocks(superblocks: &[u32], byte: u8, j: usize, first: usize, end
     low
 }
 
+// A row after first with more than j of a byte, or end: the rows 1, 2, 4, 8 and 16 after it are
+// tried.
+fn row_ahead(superblocks: &[u32], byte: u8, j: usize, first: usize, end: usize) -> usize
+    requires { ⌜ (first < end) × (end * 256 ≤ length (now superblocks)) ⌝ }
+    ensures { λ r. ⌜ (first < r) × (r ≤ end) × (r < end → j < getD (now (superblocks .entry)) (r * 256 + byte) 0) ⌝ }
+{
+    let mut step: usize = 1;
+    while step < 32 {
+        if end - first <= step {
+            return end;
+        }
+        let row = first + step;
+        if j < superblock_at(superblocks, row, byte) {
+            return row;
+        }
+        step *= 2;
+    }
+    end
+}
+
+// The last superblock row with at most j of a byte: sought from a row on where that one has at most
+// j, and among all rows where it has more or is none.
+fn superblock_near(superblocks: &[u32], byte: u8, j: usize, near: usize) -> usize
+    requires { ⌜ (256 ≤ length (now superblocks)) × (getD (now superblocks) (0 * 256 + byte) 0 ≤ j) ⌝ }
+    ensures { λ r. ⌜ LastRow (now (superblocks .entry)) byte j 0 (length (now (superblocks .entry)) / 256) r ⌝ }
+{
+    let rows = superblocks.len() / 256;
+    if rows <= near {
+        return search_superblocks(superblocks, byte, j, 0, rows);
+    }
+    if j < superblock_at(superblocks, near, byte) {
+        return search_superblocks(superblocks, byte, j, 0, rows);
+    }
+    let end = row_ahead(superblocks, byte, j, near, rows);
+    search_superblocks(superblocks, byte, j, near, end)
+}
+
 // The last block row from first to before end with at most j of a byte.
 fn search_blocks(blocks: &[u16], byte: u8, j: usize, first: usize, end: usize) -> usize
     requires { ⌜ (first < end) × (end * 256 ≤ length (now blocks)) × (getD (now blocks) (first * 256 + byte) 0 ≤ j) ⌝ }
@@ -145,9 +202,15 @@ pub fn count_below(
     above + within + count_in(&bytes[start..i], byte)
 }
 
-// The position of the occurrence of a byte that has j others before it, the number of bytes where
-// there is none: a search in the superblock rows, one in the superblock's block rows, and the scan
-// of one block.
+// An occurrence of a byte: its position, and the superblock row in which it was found.
+pub struct Occurrence {
+    pub at: usize,
+    pub superblock: usize,
+}
+
+// The occurrence of a byte that has j others before it, at the number of bytes where there is none:
+// a search in the superblock rows, which begins near a row, one in the superblock's block rows, and
+// the scan of one block. Its position is the same whatever the row near which it is sought.
 pub fn nth(
     bytes: &[u8],
     superblocks: &[u32],
@@ -156,11 +219,12 @@ pub fn nth(
     per: usize,
     byte: u8,
     j: usize,
-) -> usize
+    near: usize,
+) -> Occurrence
     requires { ⌜ Sizes block per (now bytes) × Directory block per (now bytes) (now superblocks) (now blocks) ⌝ }
-    ensures { λ r. ⌜ r ≡ nthOf byte j (now (bytes .entry)) ⌝ }
+    ensures { λ r. ⌜ r .at ≡ nthOf byte j (now (bytes .entry)) ⌝ }
 {
-    let superblock = search_superblocks(superblocks, byte, j, 0, superblocks.len() / 256);
+    let superblock = superblock_near(superblocks, byte, j, near);
     let left = j - superblock_at(superblocks, superblock, byte);
     let first = superblock * per;
     let end = base::least(first + per, blocks.len() / 256);
@@ -168,5 +232,6 @@ pub fn nth(
     let rest = left - block_at(blocks, row, byte);
     let start = row * block;
     let stop = base::least(start + block, bytes.len());
-    start + scan(&bytes[start..stop], byte, rest)
+    let at = start + scan(&bytes[start..stop], byte, rest);
+    Occurrence { at, superblock }
 }

@@ -12,11 +12,11 @@ use Rattle.directory.proofs.nth.Statement.{statement}
 use Rattle.directory.proofs.nth.Tie as tie
 
 -- what the superblock search finds
-in-superblock : (c : tie.After-search-superblocks) → let a = c .before .before .before .before .args in Holds (a .block * a .per) (a .bytes .now) (a .byte) (a .j) (c .search-superblocks .result)
+in-superblock : (c : tie.After-superblock-near) → let a = c .before .before .before .before .args in Holds (a .block * a .per) (a .bytes .now) (a .byte) (a .j) (c .superblock-near .result)
 in-superblock c =
     let s = c .before .before .before .before in
     let a = s .args in
-    superblock-holds (s .pre .0) (s .pre .1) (a .byte) (a .j) (s .fits .byte .fits) (c .search-superblocks .result) (c .search-superblocks .ensures)
+    superblock-holds (s .pre .0) (s .pre .1) (a .byte) (a .j) (s .fits .byte .fits) (c .superblock-near .result) (c .superblock-near .ensures)
 
 -- what the block search finds
 in-block : (c : tie.After-search-blocks) → let a = c .before .before .before .before .before .before .before .args in Holds (a .block) (a .bytes .now) (a .byte) (a .j) (c .search-blocks .result)
@@ -44,12 +44,12 @@ found c =
     rw (c .scan .ensures, left (c .before .before .before))
     (position (c .before .before .least2 .result) (in-block (c .before .before .before .before)) (c .before .before .least2 .ensures))
 
-search-superblocks-requires : tie.Need-search-superblocks-requires
-search-superblocks-requires c κs =
+superblock-near-requires : tie.Need-superblock-near-requires
+superblock-near-requires c κs =
     let s = c .before .before .before in
     let a = s .args in
     let rows = superblock-rows (s .pre .0) (s .pre .1) in
-    (omega (arith, rows), omega arith, zero-most (s .pre .0) (s .pre .1) (a .byte) (a .j) (s .fits .byte .fits))
+    (omega (arith, rows), zero-most (s .pre .0) (s .pre .1) (a .byte) (a .j) (s .fits .byte .fits))
 
 superblock-at-requires : tie.Need-superblock-at-requires
 superblock-at-requires c κs = search needs
@@ -60,12 +60,12 @@ sub-left c = search needs
 mul-first : tie.Need-mul-first
 mul-first c =
     let s = c .before .before .before .before .before in
-    omega (arith, rows-most (s .pre .0) (c .before .search-superblocks .result) (in-superblock (c .before) .here))
+    omega (arith, rows-most (s .pre .0) (c .before .superblock-near .result) (in-superblock (c .before) .here))
 
 add-least : tie.Need-add-least
 add-least c =
     let s = c .before .before .before .before .before in
-    omega (arith, rows-most (s .pre .0) (c .before .search-superblocks .result) (in-superblock (c .before) .here))
+    omega (arith, rows-most (s .pre .0) (c .before .superblock-near .result) (in-superblock (c .before) .here))
 
 least-requires : tie.Need-least-requires
 least-requires c κs = search needs
@@ -109,8 +109,8 @@ part-scan-end c = search needs
 scan-requires : tie.Need-scan-requires
 scan-requires c κs = search needs
 
-add-result : tie.Need-add-result
-add-result c =
+add-at : tie.Need-add-at
+add-at c =
     let a = c .before .before .before .before .before .before .before .before .before .before .before .args in
     omega (arith, found c, nth-most (a .byte) (a .j) (a .bytes .now))
 
@@ -121,7 +121,7 @@ pub nth-spec : {M : Type 1} → statement M
 nth-spec =
     tie.close
     (tie.spec
-    search-superblocks-requires
+    superblock-near-requires
     superblock-at-requires
     sub-left
     mul-first
@@ -137,5 +137,5 @@ nth-spec =
     part-scan-start
     part-scan-end
     scan-requires
-    add-result
+    add-at
     returns)
