@@ -65,8 +65,13 @@ module _ (s : ℕ) (within : Closing s) (k : ℕ) (h : 1 ≤ k) where
   pub path-one : parent s k ≡ 0 → path s k ≡ digit s k ∷ []
   path-one p = path-parent ∙ ap (λ (x : List ℕ). x ++ (digit s k ∷ [])) (ap (path s) p ∙ path-root s)
 
--- to a node of the level below, the digit of its parent and its own
-pub path-two : (s : ℕ) → Closing s → (k : ℕ) → k < maxNodes s → 1 ≤ parent s k → path s k ≡ digit s (parent s k) ∷ digit s k ∷ []
-path-two s within k l h =
-    path-parent s within k (omega (arith, div-le-self (k - 1) (continuing s)))
-    ∙ ap (λ (x : List ℕ). x ++ (digit s k ∷ [])) (path-one s within (parent s k) h (div-eq-of-lt (omega (arith, div-below (continuing s) (1 + continuing s) (k - 1) (omega arith) (omega arith)))))
+module _ (s : ℕ) (within : Closing s) (k : ℕ) (l : k < maxNodes s) (h : 1 ≤ parent s k) where
+  -- two levels above a node of the third is the root
+  pub two-up : parent s (parent s k) ≡ 0
+  two-up = div-eq-of-lt (omega (arith, div-below (continuing s) (1 + continuing s) (k - 1) (omega arith) (omega arith)))
+
+  -- to such a node the digit of its parent leads, and its own
+  pub path-two : path s k ≡ digit s (parent s k) ∷ digit s k ∷ []
+  path-two =
+      path-parent s within k (omega (arith, div-le-self (k - 1) (continuing s)))
+      ∙ ap (λ (x : List ℕ). x ++ (digit s k ∷ [])) (path-one s within (parent s k) h two-up)

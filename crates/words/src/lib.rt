@@ -13,6 +13,7 @@ ghost use Rattle.tree.specs.Nodes.{position};
 ghost use Rattle.index.specs.Arrays.{arrays, textIn};
 ghost use Rattle.words.specs.Words.{rankAt, occurrencesBelow, frequency};
 ghost use Rattle.words.specs.Ready.{nodeFrom, Counted, Ready, WordsOf};
+ghost use Rattle.words.specs.Ways.{StepIn, WayOf};
 use index::Shape;
 use tree::Place;
 use tree::Position;
@@ -57,8 +58,16 @@ fn count_in_node(
     below - before
 }
 
-// The position in a node of the byte that has j others equal to it before it in the node.
-fn nth_in_node(
+// A step of the way from a word up to the root: a byte is looked for in a node, and stands so often
+// before it.
+pub struct Step {
+    pub node: usize,
+    pub byte: u8,
+    pub skipped: usize,
+}
+
+// The step that looks for a byte in a node.
+fn step_in(
     shape: Shape,
     bytes: &[u8],
     superblocks: &[u32],
@@ -66,18 +75,54 @@ fn nth_in_node(
     starts: &[u32],
     node: usize,
     byte: u8,
-    j: usize,
-) -> Position
-    requires { ⌜ Counted shape (now bytes) (now superblocks) (now blocks) (now starts) node × (j < countOf byte (nodeFrom (now bytes) (now starts) node)) ⌝ }
-    ensures { λ r. ⌜ r .0 ≡ nth byte j (nodeFrom (now (bytes .entry)) (now (starts .entry)) node) ⌝ }
+) -> Step
+    requires { ⌜ Counted shape (now bytes) (now superblocks) (now blocks) (now starts) node ⌝ }
+    ensures { λ r. ⌜ StepIn (now (bytes .entry)) (now (starts .entry)) node byte r ⌝ }
 {
     let start = starts[node] as usize;
     let block = shape.block;
     let per = shape.per_superblock;
     let skipped = directory::count_below(bytes, superblocks, blocks, block, per, byte, start);
-    let found = directory::nth(bytes, superblocks, blocks, block, per, byte, skipped + j);
-    let at = found - start;
-    Position(at)
+    Step {
+        node,
+        byte,
+        skipped,
+    }
+}
+
+// What a step finds: a position in its node, and the superblock row in which it lies.
+struct Found {
+    at: Position,
+    superblock: usize,
+}
+
+// The position in the node of a step of the byte that has j others equal to it before it in the
+// node, sought near a superblock row.
+fn nth_in_node(
+    shape: Shape,
+    bytes: &[u8],
+    superblocks: &[u32],
+    blocks: &[u16],
+    starts: &[u32],
+    step: Step,
+    j: usize,
+    near: usize,
+) -> Found
+    requires { ⌜ Counted shape (now bytes) (now superblocks) (now blocks) (now starts) (step .node) × StepIn (now bytes) (now starts) (step .node) (step .byte) step × (j < countOf (step .byte) (nodeFrom (now bytes) (now starts) (step .node))) ⌝ }
+    ensures { λ r. ⌜ r .at .0 ≡ nth (step .byte) j (nodeFrom (now (bytes .entry)) (now (starts .entry)) (step .node)) ⌝ }
+{
+    let node = step.node;
+    let start = starts[node] as usize;
+    let block = shape.block;
+    let per = shape.per_superblock;
+    let byte = step.byte;
+    let ordinal = step.skipped + j;
+    let found = directory::nth(bytes, superblocks, blocks, block, per, byte, ordinal, near);
+    let at = found.at - start;
+    Found {
+        at: Position(at),
+        superblock: found.superblock,
+    }
 }
 
 // The position in a node of a place of the text or of its end: by the position in the node's parent.
@@ -194,8 +239,160 @@ pub fn frequency(
     count_in_node(shape, bytes, superblocks, blocks, starts, node, byte, end)
 }
 
-// The place at which a rank stands with j others of it before it: up from its closing byte in the
-// node where its codeword ends, to the root, where a position is a place.
+// The way of a rank from the node where its codeword ends up to the root: as many steps as its
+// codeword has bytes.
+pub struct Way {
+    pub length: usize,
+    pub first: Step,
+    pub second: Step,
+    pub third: Step,
+}
+
+// The way of a rank: its closing byte in the node where its codeword ends, and from each node other
+// than the root its digit in the parent.
+pub fn way_of(
+    s: usize,
+    shape: Shape,
+    lengths: &[u32],
+    bytes: &[u8],
+    superblocks: &[u32],
+    blocks: &[u16],
+    starts: &[u32],
+    rank: usize,
+) -> Way
+    requires { ⌜ Ready s shape (arrays (now lengths) (now bytes) (now superblocks) (now blocks)) (now starts) × (rank < shape .vocabulary) ⌝ }
+    ensures { λ r. ⌜ WayOf s (now (bytes .entry)) (now (starts .entry)) rank r ⌝ }
+{
+    let node = tree::node_of(s, rank);
+    let byte = tree::closing_byte(s, rank);
+    let first = step_in(shape, bytes, superblocks, blocks, starts, node, byte);
+    if node == 0 {
+        return Way {
+            length: 1,
+            first,
+            second: first,
+            third: first,
+        };
+    }
+    let up = tree::parent(s, node);
+    let digit = tree::digit(s, node);
+    let second = step_in(shape, bytes, superblocks, blocks, starts, up, digit);
+    if up == 0 {
+        return Way {
+            length: 2,
+            first,
+            second,
+            third: second,
+        };
+    }
+    let top = tree::parent(s, up);
+    let lead = tree::digit(s, up);
+    let third = step_in(shape, bytes, superblocks, blocks, starts, top, lead);
+    Way {
+        length: 3,
+        first,
+        second,
+        third,
+    }
+}
+
+// The superblock rows near which the steps of a way seek; they decide how long that takes, and
+// nothing else.
+pub struct Near {
+    pub first: usize,
+    pub second: usize,
+    pub third: usize,
+}
+
+// No row: each step seeks among all.
+pub fn nowhere(superblocks: &[u32]) -> Near {
+    let rows = superblocks.len();
+    Near {
+        first: rows,
+        second: rows,
+        third: rows,
+    }
+}
+
+// A place at which a rank stands, and the rows near which the one after it is sought.
+pub struct Next {
+    pub place: Place,
+    pub near: Near,
+}
+
+// The place at which a rank stands with j others of it before it, along its way: up from its closing
+// byte in the node where its codeword ends, to the root, where a position is a place.
+pub fn place_along(
+    s: usize,
+    shape: Shape,
+    lengths: &[u32],
+    bytes: &[u8],
+    superblocks: &[u32],
+    blocks: &[u16],
+    starts: &[u32],
+    rank: usize,
+    way: Way,
+    near: Near,
+    j: usize,
+) -> Next
+    requires { ⌜ Ready s shape (arrays (now lengths) (now bytes) (now superblocks) (now blocks)) (now starts) × (rank < shape .vocabulary) × WayOf s (now bytes) (now starts) rank way × (j < frequency (textIn s (arrays (now lengths) (now bytes) (now superblocks) (now blocks))) rank) ⌝ }
+    ensures { λ r. ⌜ r .place .0 ≡ nth rank j (textIn s (arrays (now (lengths .entry)) (now (bytes .entry)) (now (superblocks .entry)) (now (blocks .entry)))) ⌝ }
+{
+    let first = way.first;
+    let low = nth_in_node(shape, bytes, superblocks, blocks, starts, first, j, near.first);
+    if way.length == 1 {
+        return Next {
+            place: Place(low.at.0),
+            near: Near {
+                first: low.superblock,
+                second: 0,
+                third: 0,
+            },
+        };
+    }
+    let second = way.second;
+    let middle = nth_in_node(
+        shape,
+        bytes,
+        superblocks,
+        blocks,
+        starts,
+        second,
+        low.at.0,
+        near.second,
+    );
+    if way.length == 2 {
+        return Next {
+            place: Place(middle.at.0),
+            near: Near {
+                first: low.superblock,
+                second: middle.superblock,
+                third: 0,
+            },
+        };
+    }
+    let third = way.third;
+    let high = nth_in_node(
+        shape,
+        bytes,
+        superblocks,
+        blocks,
+        starts,
+        third,
+        middle.at.0,
+        near.third,
+    );
+    Next {
+        place: Place(high.at.0),
+        near: Near {
+            first: low.superblock,
+            second: middle.superblock,
+            third: high.superblock,
+        },
+    }
+}
+
+// The place at which a rank stands with j others of it before it.
 pub fn place_of(
     s: usize,
     shape: Shape,
@@ -210,14 +407,20 @@ pub fn place_of(
     requires { ⌜ Ready s shape (arrays (now lengths) (now bytes) (now superblocks) (now blocks)) (now starts) × (rank < shape .vocabulary) × (j < frequency (textIn s (arrays (now lengths) (now bytes) (now superblocks) (now blocks))) rank) ⌝ }
     ensures { λ r. ⌜ r .0 ≡ nth rank j (textIn s (arrays (now (lengths .entry)) (now (bytes .entry)) (now (superblocks .entry)) (now (blocks .entry)))) ⌝ }
 {
-    let mut node = tree::node_of(s, rank);
-    let byte = tree::closing_byte(s, rank);
-    let mut at = nth_in_node(shape, bytes, superblocks, blocks, starts, node, byte, j);
-    while 0 < node {
-        let up = tree::parent(s, node);
-        let digit = tree::digit(s, node);
-        at = nth_in_node(shape, bytes, superblocks, blocks, starts, up, digit, at.0);
-        node = up;
-    }
-    Place(at.0)
+    let way = way_of(s, shape, lengths, bytes, superblocks, blocks, starts, rank);
+    let near = nowhere(superblocks);
+    let next = place_along(
+        s,
+        shape,
+        lengths,
+        bytes,
+        superblocks,
+        blocks,
+        starts,
+        rank,
+        way,
+        near,
+        j,
+    );
+    Place(next.place.0)
 }

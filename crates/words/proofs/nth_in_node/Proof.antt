@@ -12,12 +12,13 @@ use Rattle.words.proofs.nth_in_node.Statement.{statement}
 use Rattle.words.proofs.nth_in_node.Tie as tie
 
 -- the occurrence is found as far from the node's start as it stands in the node
-found : (c : tie.After-nth) → let a = c .before .before .before .before .before .before .before .args in
-    c .nth .result ≡ getD (a .starts .now) (a .node) 0 + nth (a .byte) (a .j) (nodeFrom (a .bytes .now) (a .starts .now) (a .node))
+found : (c : tie.After-struct-known2) → let a = c .before .before .before .before .before .before .before .before .args in
+    c .before .nth .result .at ≡ getD (a .starts .now) (a .step .node) 0 + nth (a .step .byte) (a .j) (nodeFrom (a .bytes .now) (a .starts .now) (a .step .node))
 found c =
-    let start = c .before .before .before .before .before .before .before in
-    c .nth .ensures
-    ∙ rw (c .before .count-below .ensures) (from-nth (start .args .bytes .now) (start .args .starts .now) (start .args .node) (start .args .byte) (start .args .j) (start .pre .1))
+    let start = c .before .before .before .before .before .before .before .before in
+    let a = start .args in
+    c .before .nth .ensures
+    ∙ rw (start .pre .1 .skipped-is) (from-nth (a .bytes .now) (a .starts .now) (a .step .node) (a .step .byte) (a .j) (start .pre .2))
 
 mul-start : tie.Need-mul-start
 mul-start c = search needs
@@ -26,25 +27,20 @@ shared-slice-read-start : tie.Need-shared-slice-read-start
 shared-slice-read-start c = search needs
 
 cast-start : tie.Need-cast-start
-cast-start c = omega (arith, c .shared-slice-known5 .given (c .before .before .before .before .before .args .node))
-
-count-below-requires : tie.Need-count-below-requires
-count-below-requires c κs =
-    let start = c .before .before .before .before .before in
-    (start .pre .0 .sizes, start .pre .0 .directory, start .pre .0 .inside)
+cast-start c = omega (arith, c .shared-slice-known5 .given (c .before .before .before .before .before .args .step .node))
 
 -- neither number is above the number of bytes
-add-nth : tie.Need-add-nth
-add-nth c =
+add-ordinal : tie.Need-add-ordinal
+add-ordinal c =
     let start = c .before .before .before .before .before .before in
     let a = start .args in
     omega (
       arith,
       start .pre .0 .sizes .bytes-most,
-      c .count-below .ensures,
-      count-take-most (a .byte) (getD (a .starts .now) (a .node) 0) (a .bytes .now),
-      count-most (a .byte) (nodeFrom (a .bytes .now) (a .starts .now) (a .node)),
-      from-end (a .bytes .now) (a .starts .now) (a .node) (length (nodeFrom (a .bytes .now) (a .starts .now) (a .node))) (start .pre .0 .inside) (omega arith),
+      start .pre .1 .skipped-is,
+      count-take-most (a .step .byte) (getD (a .starts .now) (a .step .node) 0) (a .bytes .now),
+      count-most (a .step .byte) (nodeFrom (a .bytes .now) (a .starts .now) (a .step .node)),
+      from-end (a .bytes .now) (a .starts .now) (a .step .node) (length (nodeFrom (a .bytes .now) (a .starts .now) (a .step .node))) (start .pre .0 .inside) (omega arith),
     )
 
 nth-requires : tie.Need-nth-requires
@@ -65,8 +61,7 @@ nth-in-node-spec =
     mul-start
     shared-slice-read-start
     cast-start
-    count-below-requires
-    add-nth
+    add-ordinal
     nth-requires
     sub-at
     returns)
