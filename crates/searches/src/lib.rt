@@ -8,16 +8,18 @@ ghost use mathlib.Core.Bool.{false};
 ghost use Prim.Native.Nat.{_+_, _≤_, _<_};
 ghost use lib.Dec.{eqb};
 ghost use lib.IntN.{pos, _+ℤ_, natAbs};
-ghost use lib.ListN.{length, getD, take, drop};
-ghost use Rattle.base.specs.Lists.{Below, countOf};
+ghost use lib.ListN.{length, take, drop};
+ghost use Rattle.base.specs.Lists.{Below};
 ghost use Rattle.base.specs.Texts.{maxWords, maxOffset};
 ghost use Rattle.base.specs.Answers.{front};
 ghost use Rattle.index.specs.Arrays.{arrays, textIn};
+ghost use Rattle.words.specs.Words.{rankAt, occurrencesBelow};
 ghost use Rattle.words.specs.Ready.{Ready};
 ghost use Rattle.phrases.specs.Phrases.{stands, places};
 ghost use Rattle.phrases.specs.Neighbours.{standsAt, neighbours as neighboursOf};
 ghost use Rattle.pages.specs.Pages.{pageOver};
-ghost use Rattle.dense.specs.Code.{Closing, maxVocabulary};
+ghost use Rattle.dense.specs.Code.{Closing, code, maxVocabulary};
+ghost use Rattle.tree.specs.Nodes.{firstByte};
 ghost use Rattle.searches.specs.Searching.{firstBytes, Searchable, Searching, Rarest, writtenOf, fullAt, endedAt};
 use index::Shape;
 use phrases::Found;
@@ -59,7 +61,7 @@ impl Written {
 }
 
 // Whether a rank stands at a place of the text: the whole word is read.
-pub fn agrees_at(
+fn agrees_at(
     s: usize,
     shape: Shape,
     lengths: &[u32],
@@ -71,7 +73,7 @@ pub fn agrees_at(
     rank: usize,
 ) -> bool
     requires { ⌜ Ready s shape (arrays (now lengths) (now bytes) (now superblocks) (now blocks)) (now starts) × (place < length (textIn s (arrays (now lengths) (now bytes) (now superblocks) (now blocks)))) ⌝ }
-    ensures { λ r. ⌜ r ≡ eqb (getD (textIn s (arrays (now (lengths .entry)) (now (bytes .entry)) (now (superblocks .entry)) (now (blocks .entry)))) place 0) rank ⌝ }
+    ensures { λ r. ⌜ r ≡ eqb (rankAt (textIn s (arrays (now (lengths .entry)) (now (bytes .entry)) (now (superblocks .entry)) (now (blocks .entry)))) place) rank ⌝ }
 {
     let found = words::word_at(
         s,
@@ -142,7 +144,7 @@ fn bytes_stand(firsts: &[u8], bytes: &[u8], at: usize) -> bool
 
 // Whether a phrase stands at a place of the text: the first bytes of its words are compared in the
 // root, and where they are those of the words there, the whole words.
-pub fn stands_at(
+fn stands_at(
     s: usize,
     shape: Shape,
     lengths: &[u32],
@@ -180,7 +182,7 @@ pub fn stands_at(
 }
 
 // The index of a word of a phrase than which none of its words stands less often in the text.
-pub fn rarest(
+fn rarest(
     s: usize,
     shape: Shape,
     lengths: &[u32],
@@ -210,7 +212,7 @@ pub fn rarest(
 }
 
 // How often a rank stands below a place, which may lie past the end of the text.
-pub fn below(
+fn below(
     s: usize,
     shape: Shape,
     lengths: &[u32],
@@ -222,7 +224,7 @@ pub fn below(
     place: usize,
 ) -> usize
     requires { ⌜ Ready s shape (arrays (now lengths) (now bytes) (now superblocks) (now blocks)) (now starts) × (rank < shape .vocabulary) ⌝ }
-    ensures { λ r. ⌜ r ≡ countOf rank (take place (textIn s (arrays (now (lengths .entry)) (now (bytes .entry)) (now (superblocks .entry)) (now (blocks .entry))))) ⌝ }
+    ensures { λ r. ⌜ r ≡ occurrencesBelow (textIn s (arrays (now (lengths .entry)) (now (bytes .entry)) (now (superblocks .entry)) (now (blocks .entry)))) rank place ⌝ }
 {
     let end = base::least(place, words::text_length(lengths));
     words::occurrences_below(
@@ -259,9 +261,24 @@ fn count_along(
     let stop = words::frequency(s, shape, lengths, bytes, superblocks, blocks, starts, w);
     let mut count: usize = 0;
     let mut j = below(s, shape, lengths, bytes, superblocks, blocks, starts, w, i);
+    let way = words::way_of(s, shape, lengths, bytes, superblocks, blocks, starts, w);
+    let mut near = words::nowhere(superblocks);
     while j < stop {
-        let at = words::place_of(s, shape, lengths, bytes, superblocks, blocks, starts, w, j);
-        let q = at.0 - i;
+        let next = words::place_along(
+            s,
+            shape,
+            lengths,
+            bytes,
+            superblocks,
+            blocks,
+            starts,
+            w,
+            way,
+            near,
+            j,
+        );
+        near = next.near;
+        let q = next.place.0 - i;
         if stands_at(
             s,
             shape,
@@ -347,9 +364,24 @@ fn page_along(
         w,
         from,
     );
+    let way = words::way_of(s, shape, lengths, bytes, superblocks, blocks, starts, w);
+    let mut near = words::nowhere(superblocks);
     while j < stop {
-        let at = words::place_of(s, shape, lengths, bytes, superblocks, blocks, starts, w, j);
-        let q = at.0 - i;
+        let found = words::place_along(
+            s,
+            shape,
+            lengths,
+            bytes,
+            superblocks,
+            blocks,
+            starts,
+            w,
+            way,
+            near,
+            j,
+        );
+        near = found.near;
+        let q = found.place.0 - i;
         if stands_at(
             s,
             shape,
@@ -409,7 +441,41 @@ pub fn write_page(
     )
 }
 
-// Whether a rank stands at an offset from a place: never where that is outside the text.
+// Whether a rank stands at a place of the text: the first byte of its codeword is compared in the
+// root, and where it is that of the word there, the whole word.
+fn word_stands(
+    s: usize,
+    shape: Shape,
+    lengths: &[u32],
+    bytes: &[u8],
+    superblocks: &[u32],
+    blocks: &[u16],
+    starts: &[u32],
+    first: u8,
+    rank: usize,
+    place: usize,
+) -> bool
+    requires { ⌜ Ready s shape (arrays (now lengths) (now bytes) (now superblocks) (now blocks)) (now starts) × (first ≡ firstByte (code s rank)) × (place < length (textIn s (arrays (now lengths) (now bytes) (now superblocks) (now blocks)))) ⌝ }
+    ensures { λ r. ⌜ r ≡ eqb (rankAt (textIn s (arrays (now (lengths .entry)) (now (bytes .entry)) (now (superblocks .entry)) (now (blocks .entry)))) place) rank ⌝ }
+{
+    if bytes[place] != first {
+        return false;
+    }
+    agrees_at(
+        s,
+        shape,
+        lengths,
+        bytes,
+        superblocks,
+        blocks,
+        starts,
+        place,
+        rank,
+    )
+}
+
+// Whether a rank with this first byte stands at an offset from a place: never where that is outside
+// the text.
 fn neighbour_at(
     s: usize,
     shape: Shape,
@@ -418,17 +484,18 @@ fn neighbour_at(
     superblocks: &[u32],
     blocks: &[u16],
     starts: &[u32],
+    first: u8,
     rank: usize,
     place: usize,
     offset: i32,
 ) -> bool
-    requires { ⌜ Ready s shape (arrays (now lengths) (now bytes) (now superblocks) (now blocks)) (now starts) × (place < length (textIn s (arrays (now lengths) (now bytes) (now superblocks) (now blocks)))) ⌝ }
+    requires { ⌜ Ready s shape (arrays (now lengths) (now bytes) (now superblocks) (now blocks)) (now starts) × (place < length (textIn s (arrays (now lengths) (now bytes) (now superblocks) (now blocks)))) × (first ≡ firstByte (code s rank)) ⌝ }
     ensures { λ r. ⌜ r ≡ standsAt (textIn s (arrays (now (lengths .entry)) (now (bytes .entry)) (now (superblocks .entry)) (now (blocks .entry)))) rank (pos place +ℤ offset) ⌝ }
 {
     let n = words::text_length(lengths);
     let found = phrases::shifted(place, offset, n);
     match found {
-        Found::At(at) => agrees_at(
+        Found::At(at) => word_stands(
             s,
             shape,
             lengths,
@@ -436,8 +503,9 @@ fn neighbour_at(
             superblocks,
             blocks,
             starts,
-            at,
+            first,
             rank,
+            at,
         ),
         Found::Outside => false,
     }
@@ -456,14 +524,31 @@ fn neighbours_along(
     v: usize,
     offset: i32,
 ) -> usize
-    requires { ⌜ Ready s shape (arrays (now lengths) (now bytes) (now superblocks) (now blocks)) (now starts) × (w < shape .vocabulary) ⌝ }
+    requires { ⌜ Ready s shape (arrays (now lengths) (now bytes) (now superblocks) (now blocks)) (now starts) × (w < shape .vocabulary) × (v < shape .vocabulary) ⌝ }
     ensures { λ r. ⌜ r ≡ neighboursOf (textIn s (arrays (now (lengths .entry)) (now (bytes .entry)) (now (superblocks .entry)) (now (blocks .entry)))) w v offset ⌝ }
 {
     let stop = words::frequency(s, shape, lengths, bytes, superblocks, blocks, starts, w);
     let mut count: usize = 0;
     let mut j: usize = 0;
+    let first = dense::encode(s, v).first;
+    let way = words::way_of(s, shape, lengths, bytes, superblocks, blocks, starts, w);
+    let mut near = words::nowhere(superblocks);
     while j < stop {
-        let place = words::place_of(s, shape, lengths, bytes, superblocks, blocks, starts, w, j);
+        let next = words::place_along(
+            s,
+            shape,
+            lengths,
+            bytes,
+            superblocks,
+            blocks,
+            starts,
+            w,
+            way,
+            near,
+            j,
+        );
+        near = next.near;
+        let place = next.place.0;
         if neighbour_at(
             s,
             shape,
@@ -472,8 +557,9 @@ fn neighbours_along(
             superblocks,
             blocks,
             starts,
+            first,
             v,
-            place.0,
+            place,
             offset,
         ) {
             count += 1;

@@ -339,7 +339,16 @@ pub fn place_along(
     ensures { λ r. ⌜ r .place .0 ≡ nth rank j (textIn s (arrays (now (lengths .entry)) (now (bytes .entry)) (now (superblocks .entry)) (now (blocks .entry)))) ⌝ }
 {
     let first = way.first;
-    let low = nth_in_node(shape, bytes, superblocks, blocks, starts, first, j, near.first);
+    let low = nth_in_node(
+        shape,
+        bytes,
+        superblocks,
+        blocks,
+        starts,
+        first,
+        j,
+        near.first,
+    );
     if way.length == 1 {
         return Next {
             place: Place(low.at.0),

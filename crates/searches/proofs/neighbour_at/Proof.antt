@@ -26,13 +26,13 @@ shifted-requires c κs =
 enum-known-found : tie.Need-enum-known-found
 enum-known-found c = search needs
 
-agrees-at-requires : tie.Need-agrees-at-requires
-agrees-at-requires c κs =
+word-stands-requires : tie.Need-word-stands-requires
+word-stands-requires c κs =
     let st = c .before .before .before .before .before .before .before .before .before .before in
     let t = textIn (st .args .s) (arrays (st .args .lengths .now) (st .args .bytes .now) (st .args .superblocks .now) (st .args .blocks .now)) in
     let n = c .before .before .before .before .text-length .ensures .1 _ _ _ _ _ (st .pre .0 .checked) in
     let e : shiftedOf (st .args .place) (st .args .offset) (length t) ≡ At (c .before .found .given .0 .0) = ap (λ (z : ℤ). shiftedOf (st .args .place) z (length t)) (sym (toZ-ofZ (st .fits .offset))) ∙ ap (shiftedOf (st .args .place) _) (sym n) ∙ sym (c .before .before .before .shifted .ensures) ∙ c .before .found .given .1 in
-    (st .pre .0, shifted-below (st .args .place) (st .args .offset) (length t) (c .before .found .given .0 .0) e)
+    (st .pre .0, st .pre .2, shifted-below (st .args .place) (st .args .offset) (length t) (c .before .found .given .0 .0) e)
 
 enum-told : tie.Need-enum-told
 enum-told c = search needs
@@ -44,7 +44,7 @@ returns c =
     let n = c .before .before .before .before .before .text-length .ensures .1 _ _ _ _ _ (st .pre .0 .checked) in
     let e : shiftedOf (st .args .place) (st .args .offset) (length t) ≡ At (c .before .before .found .given .0 .0) =
     ap (λ (z : ℤ). shiftedOf (st .args .place) z (length t)) (sym (toZ-ofZ (st .fits .offset))) ∙ ap (shiftedOf (st .args .place) _) (sym n) ∙ sym (c .before .before .before .before .shifted .ensures) ∙ c .before .before .found .given .1 in
-    c .agrees-at .ensures ∙ sym (stands-moved t (st .args .rank) (st .args .offset) (st .args .place) (c .before .before .found .given .0 .0) e)
+    c .word-stands .ensures ∙ sym (stands-moved t (st .args .rank) (st .args .offset) (st .args .place) (c .before .before .found .given .0 .0) e)
 
 returns-2 : tie.Need-returns-2
 returns-2 c =
@@ -62,7 +62,7 @@ neighbour-at-spec =
     text-length-requires
     shifted-requires
     enum-known-found
-    agrees-at-requires
+    word-stands-requires
     enum-told
     returns
     returns-2)

@@ -38,10 +38,10 @@ written-result p entry slice count more next finished r e m = (rw (e, m .valueIs
 
 -- the hits among the candidates before j are written, and the last is a place
 abbrev Inv-loop : tie.InvT-loop
-Inv-loop s shape lengths bytes superblocks blocks starts firsts words next lines₀ i w stop count₀ last₀ from j₀ lines count last j = ((countOf w (take (next + i) (textIn s (arrays lengths bytes superblocks blocks)))) ≤ j) × (j ≤ stop) × (last ≤ maxWords) × Filled lines₀ (along (stands (textIn s (arrays lengths bytes superblocks blocks)) words) (candidate (textIn s (arrays lengths bytes superblocks blocks)) w i) (countOf w (take (next + i) (textIn s (arrays lengths bytes superblocks blocks)))) (j - (countOf w (take (next + i) (textIn s (arrays lengths bytes superblocks blocks)))))) lines count last
+Inv-loop s shape lengths bytes superblocks blocks starts firsts words next lines₀ i w stop count₀ last₀ from j₀ way near₀ lines count last j near = ((countOf w (take (next + i) (textIn s (arrays lengths bytes superblocks blocks)))) ≤ j) × (j ≤ stop) × (last ≤ maxWords) × Filled lines₀ (along (stands (textIn s (arrays lengths bytes superblocks blocks)) words) (candidate (textIn s (arrays lengths bytes superblocks blocks)) w i) (countOf w (take (next + i) (textIn s (arrays lengths bytes superblocks blocks)))) (j - (countOf w (take (next + i) (textIn s (arrays lengths bytes superblocks blocks)))))) lines count last
 
 abbrev μ-loop : tie.MeasureT-loop
-μ-loop s shape lengths bytes superblocks blocks starts firsts words next lines₀ i w stop count₀ last₀ from j₀ lines count last j = stop - j
+μ-loop s shape lengths bytes superblocks blocks starts firsts words next lines₀ i w stop count₀ last₀ from j₀ way near₀ lines count last j near = stop - j
 
 rarest-requires : tie.Need-rarest-requires Inv-loop μ-loop
 rarest-requires c κs = c .before .before .before .before .before .before .before .before .pre .0 .searchable
@@ -68,114 +68,120 @@ below-requires c κs =
     let st = c .before .before .before .before .before .before .before .before .before .before .before in
     (st .pre .0 .searchable .ready, all-at (λ (x : ℕ). x < st .args .shape .vocabulary) (st .args .words .now) 0 (c .before .before .rarest .result) (st .pre .0 .searchable .below) (c .before .before .rarest .ensures .inside))
 
+way-of-requires : tie.Need-way-of-requires Inv-loop μ-loop
+way-of-requires c κs = below-requires (c .before) κs
+
+nowhere-requires : tie.Need-nowhere-requires Inv-loop μ-loop
+nowhere-requires c κs = search needs
+
 loop-holds : tie.Need-loop-holds Inv-loop μ-loop
 loop-holds c =
-    let st = c .before .before .before .before .before .before .before .before .before .before .before .before in
+    let st = c .before .before .before .before .before .before .before .before .before .before .before .before .before .before in
     let t = textIn (st .args .s) (arrays (st .args .lengths .now) (st .args .bytes .now) (st .args .superblocks .now) (st .args .blocks .now)) in
     let ws = st .args .words .now in
-    let i = c .before .before .before .rarest .result in
+    let i = c .before .before .before .before .before .rarest .result in
     let w = getD ws i 0 in
     let P = stands t ws in
     let first = countOf w (take (st .args .next + i) t) in
-    let e : c .below .result ≡ first = c .below .ensures in (
+    let e : c .before .before .below .result ≡ first = c .before .before .below .ensures in (
       omega arith,
-      omega (arith, c .before .frequency .ensures, count-take-whole w (st .args .next + i) t),
+      omega (arith, c .before .before .before .frequency .ensures, count-take-whole w (st .args .next + i) t),
       omega arith,
       rw e (search-starts P (candidate t w i) first (st .args .lines .now)),
     )
 
-place-of-requires : tie.Need-place-of-requires Inv-loop μ-loop
-place-of-requires c κs =
-    let st = c .before .before .before .before .before .before .before .before .before .before .before .before .before .before in
-    (st .pre .0 .searchable .ready, all-at (λ (x : ℕ). x < st .args .shape .vocabulary) (st .args .words .now) 0 (c .before .before .before .before .before .rarest .result) (st .pre .0 .searchable .below) (c .before .before .before .before .before .rarest .ensures .inside), omega (arith, c .before .before .before .frequency .ensures))
+place-along-requires : tie.Need-place-along-requires Inv-loop μ-loop
+place-along-requires c κs =
+    let st = c .before .before .before .before .before .before .before .before .before .before .before .before .before .before .before .before in
+    (st .pre .0 .searchable .ready, all-at (λ (x : ℕ). x < st .args .shape .vocabulary) (st .args .words .now) 0 (c .before .before .before .before .before .before .before .rarest .result) (st .pre .0 .searchable .below) (c .before .before .before .before .before .before .before .rarest .ensures .inside), c .before .before .before .way-of .ensures, omega (arith, c .before .before .before .before .before .frequency .ensures))
 
 sub-q : tie.Need-sub-q Inv-loop μ-loop
 sub-q c =
-    let st = c .before .before .before .before .before .before .before .before .before .before .before .before .before .before .before .before in
+    let st = c .before .before .before .before .before .before .before .before .before .before .before .before .before .before .before .before .before .before .before in
     let t = textIn (st .args .s) (arrays (st .args .lengths .now) (st .args .bytes .now) (st .args .superblocks .now) (st .args .blocks .now)) in
     let ws = st .args .words .now in
-    let i = c .before .before .before .before .before .before .before .rarest .result in
+    let i = c .before .before .before .before .before .before .before .before .before .before .rarest .result in
     let w = getD ws i 0 in
     let P = stands t ws in
     let first = countOf w (take (st .args .next + i) t) in
-    let l = c .before .before .before .loop in
-    omega (arith, c .before .place-of .ensures, candidate-later t w i (l .j) (st .args .next) (l .inv .0) (omega (arith, c .before .before .before .before .before .frequency .ensures)))
+    let l = c .before .before .before .before .loop in
+    omega (arith, c .before .before .place-along .ensures, candidate-later t w i (l .j) (st .args .next) (l .inv .0) (omega (arith, c .before .before .before .before .before .before .before .before .frequency .ensures)))
 
 stands-at-requires : tie.Need-stands-at-requires Inv-loop μ-loop
 stands-at-requires c κs =
-    let st = c .before .before .before .before .before .before .before .before .before .before .before .before .before .before .before .before in
+    let st = c .before .before .before .before .before .before .before .before .before .before .before .before .before .before .before .before .before .before .before in
     let t = textIn (st .args .s) (arrays (st .args .lengths .now) (st .args .bytes .now) (st .args .superblocks .now) (st .args .blocks .now)) in
     let ws = st .args .words .now in
-    let i = c .before .before .before .before .before .before .before .rarest .result in
+    let i = c .before .before .before .before .before .before .before .before .before .before .rarest .result in
     let w = getD ws i 0 in
     let P = stands t ws in
     let first = countOf w (take (st .args .next + i) t) in
-    let l = c .before .before .before .loop in
-    (st .pre .0, omega (arith, c .before .place-of .ensures, candidate-inside t w i (l .j) (omega (arith, c .before .before .before .before .before .frequency .ensures))))
+    let l = c .before .before .before .before .loop in
+    (st .pre .0, omega (arith, c .before .before .place-along .ensures, candidate-inside t w i (l .j) (omega (arith, c .before .before .before .before .before .before .before .before .frequency .ensures))))
 
 full-requires : tie.Need-full-requires Inv-loop μ-loop
-full-requires c κs = c .before .before .before .before .before .before .loop .inv .2
+full-requires c κs = c .before .before .before .before .before .before .before .loop .inv .2
 
 same-length : tie.Need-same-length Inv-loop μ-loop
-same-length c = filled-length _ _ _ _ _ (c .before .before .before .before .before .before .before .loop .inv .3)
+same-length c = filled-length _ _ _ _ _ (c .before .before .before .before .before .before .before .before .loop .inv .3)
 
 returns : tie.Need-returns Inv-loop μ-loop
 returns c =
-    let st = c .before .before .before .before .before .before .before .before .before .before .before .before .before .before .before .before .before .before .before .before in
+    let st = c .before .before .before .before .before .before .before .before .before .before .before .before .before .before .before .before .before .before .before .before .before .before .before in
     let t = textIn (st .args .s) (arrays (st .args .lengths .now) (st .args .bytes .now) (st .args .superblocks .now) (st .args .blocks .now)) in
     let ws = st .args .words .now in
-    let i = c .before .before .before .before .before .before .before .before .before .before .before .rarest .result in
+    let i = c .before .before .before .before .before .before .before .before .before .before .before .before .before .before .rarest .result in
+    let w = getD ws i 0 in
+    let P = stands t ws in
+    let first = countOf w (take (st .args .next + i) t) in
+    let l = c .before .before .before .before .before .before .before .before .loop in
+    let here : P (candidate t w i (l .j)) ≡ true =
+    ap (λ (q : ℕ). P (q - i)) (sym (c .before .before .before .before .before .before .place-along .ensures)) ∙ sym (c .before .before .before .stands-at .ensures) ∙ c .before .before .if1 .taken in
+    written-result (pageOver P (length t) (length (st .args .lines .now)) (st .args .next) false) (st .args .lines .now) (l .lines) (l .count) _ _ _ (c .full .result) (c .full .ensures)
+    (search-full P (candidate t w i) first (l .j) (st .args .lines .now) (l .lines) (l .count) (l .last) (l .inv .0) (l .inv .3)
+    (countOf w t) (st .args .next) (length t) (candidates-from t w i P (phrase-anchored t ws i (c .before .before .before .before .before .before .before .before .before .before .before .before .before .before .rarest .ensures .inside)) (st .args .next))
+    (omega (arith, c .before .before .before .before .before .before .before .before .before .before .before .before .frequency .ensures)) here (c .before .if2 .taken))
+
+cast-lines : tie.Need-cast-lines Inv-loop μ-loop
+cast-lines c =
+    let st = c .before .before .before .before .before .before .before .before .before .before .before .before .before .before .before .before .before .before .before .before .before .before in
+    let t = textIn (st .args .s) (arrays (st .args .lengths .now) (st .args .bytes .now) (st .args .superblocks .now) (st .args .blocks .now)) in
+    let ws = st .args .words .now in
+    let i = c .before .before .before .before .before .before .before .before .before .before .before .before .before .rarest .result in
     let w = getD ws i 0 in
     let P = stands t ws in
     let first = countOf w (take (st .args .next + i) t) in
     let l = c .before .before .before .before .before .before .before .loop in
-    let here : P (candidate t w i (l .j)) ≡ true =
-    ap (λ (q : ℕ). P (q - i)) (sym (c .before .before .before .before .before .place-of .ensures)) ∙ sym (c .before .before .before .stands-at .ensures) ∙ c .before .before .if1 .taken in
-    written-result (pageOver P (length t) (length (st .args .lines .now)) (st .args .next) false) (st .args .lines .now) (l .lines) (l .count) _ _ _ (c .full .result) (c .full .ensures)
-    (search-full P (candidate t w i) first (l .j) (st .args .lines .now) (l .lines) (l .count) (l .last) (l .inv .0) (l .inv .3)
-    (countOf w t) (st .args .next) (length t) (candidates-from t w i P (phrase-anchored t ws i (c .before .before .before .before .before .before .before .before .before .before .before .rarest .ensures .inside)) (st .args .next))
-    (omega (arith, c .before .before .before .before .before .before .before .before .before .frequency .ensures)) here (c .before .if2 .taken))
-
-cast-lines : tie.Need-cast-lines Inv-loop μ-loop
-cast-lines c =
-    let st = c .before .before .before .before .before .before .before .before .before .before .before .before .before .before .before .before .before .before .before in
-    let t = textIn (st .args .s) (arrays (st .args .lengths .now) (st .args .bytes .now) (st .args .superblocks .now) (st .args .blocks .now)) in
-    let ws = st .args .words .now in
-    let i = c .before .before .before .before .before .before .before .before .before .before .rarest .result in
-    let w = getD ws i 0 in
-    let P = stands t ws in
-    let first = countOf w (take (st .args .next + i) t) in
-    let l = c .before .before .before .before .before .before .loop in
-    omega (arith, c .before .before .before .before .place-of .ensures, ready-most (st .pre .0 .searchable .ready), candidate-inside t w i (l .j) (omega (arith, c .before .before .before .before .before .before .before .before .frequency .ensures)))
+    omega (arith, c .before .before .before .before .before .place-along .ensures, ready-most (st .pre .0 .searchable .ready), candidate-inside t w i (l .j) (omega (arith, c .before .before .before .before .before .before .before .before .before .before .before .frequency .ensures)))
 
 mul-lines : tie.Need-mul-lines Inv-loop μ-loop
 mul-lines c =
-    let st = c .before .before .before .before .before .before .before .before .before .before .before .before .before .before .before .before .before .before .before in
+    let st = c .before .before .before .before .before .before .before .before .before .before .before .before .before .before .before .before .before .before .before .before .before .before in
     let t = textIn (st .args .s) (arrays (st .args .lengths .now) (st .args .bytes .now) (st .args .superblocks .now) (st .args .blocks .now)) in
     let ws = st .args .words .now in
-    let i = c .before .before .before .before .before .before .before .before .before .before .rarest .result in
+    let i = c .before .before .before .before .before .before .before .before .before .before .before .before .before .rarest .result in
     let w = getD ws i 0 in
     let P = stands t ws in
     let first = countOf w (take (st .args .next + i) t) in
-    let l = c .before .before .before .before .before .before .loop in
-    omega (arith, l .inv .3 .valueIs, count-most P (candidate t w i) first (l .j - first), often-most w t, c .before .before .before .before .before .before .before .before .frequency .ensures, ready-most (st .pre .0 .searchable .ready))
+    let l = c .before .before .before .before .before .before .before .loop in
+    omega (arith, l .inv .3 .valueIs, count-most P (candidate t w i) first (l .j - first), often-most w t, c .before .before .before .before .before .before .before .before .before .before .before .frequency .ensures, ready-most (st .pre .0 .searchable .ready))
 
 slice-write-lines : tie.Need-slice-write-lines Inv-loop μ-loop
 slice-write-lines c =
-    let l = c .before .before .before .before .before .before .loop in
+    let l = c .before .before .before .before .before .before .before .loop in
     omega (arith, filled-length _ _ _ _ _ (l .inv .3), l .inv .3 .fits, c .if2 .left)
 
 add-count : tie.Need-add-count Inv-loop μ-loop
 add-count c =
-    let st = c .before .before .before .before .before .before .before .before .before .before .before .before .before .before .before .before .before .before .before in
+    let st = c .before .before .before .before .before .before .before .before .before .before .before .before .before .before .before .before .before .before .before .before .before .before in
     let t = textIn (st .args .s) (arrays (st .args .lengths .now) (st .args .bytes .now) (st .args .superblocks .now) (st .args .blocks .now)) in
     let ws = st .args .words .now in
-    let i = c .before .before .before .before .before .before .before .before .before .before .rarest .result in
+    let i = c .before .before .before .before .before .before .before .before .before .before .before .before .before .rarest .result in
     let w = getD ws i 0 in
     let P = stands t ws in
     let first = countOf w (take (st .args .next + i) t) in
-    let l = c .before .before .before .before .before .before .loop in
-    omega (arith, l .inv .3 .valueIs, count-most P (candidate t w i) first (l .j - first), often-most w t, c .before .before .before .before .before .before .before .before .frequency .ensures, ready-most (st .pre .0 .searchable .ready))
+    let l = c .before .before .before .before .before .before .before .loop in
+    omega (arith, l .inv .3 .valueIs, count-most P (candidate t w i) first (l .j - first), often-most w t, c .before .before .before .before .before .before .before .before .before .before .before .frequency .ensures, ready-most (st .pre .0 .searchable .ready))
 
 add-j : tie.Need-add-j Inv-loop μ-loop
 add-j c = search needs
@@ -185,16 +191,16 @@ loop-less c = search needs
 
 loop-again : tie.Need-loop-again Inv-loop μ-loop
 loop-again c =
-    let st = c .before .before .before .before .before .before .before .before .before .before .before .before .before .before .before .before .before .before in
+    let st = c .before .before .before .before .before .before .before .before .before .before .before .before .before .before .before .before .before .before .before .before .before in
     let t = textIn (st .args .s) (arrays (st .args .lengths .now) (st .args .bytes .now) (st .args .superblocks .now) (st .args .blocks .now)) in
     let ws = st .args .words .now in
-    let i = c .before .before .before .before .before .before .before .before .before .rarest .result in
+    let i = c .before .before .before .before .before .before .before .before .before .before .before .before .rarest .result in
     let w = getD ws i 0 in
     let P = stands t ws in
     let first = countOf w (take (st .args .next + i) t) in
-    let l = c .before .before .before .before .before .loop in
-    let e = c .before .before .before .place-of .ensures in
-    let m : candidate t w i (l .j) ≤ maxWords = omega (arith, ready-most (st .pre .0 .searchable .ready), candidate-inside t w i (l .j) (omega (arith, c .before .before .before .before .before .before .before .frequency .ensures))) in
+    let l = c .before .before .before .before .before .before .loop in
+    let e = c .before .before .before .before .place-along .ensures in
+    let m : candidate t w i (l .j) ≤ maxWords = omega (arith, ready-most (st .pre .0 .searchable .ready), candidate-inside t w i (l .j) (omega (arith, c .before .before .before .before .before .before .before .before .before .before .frequency .ensures))) in
     let test : P (candidate t w i (l .j)) ≡ c .before .stands-at .result =
     ap (λ (q : ℕ). P (q - i)) (sym e) ∙ sym (c .before .stands-at .ensures) in (
       omega arith,
@@ -211,7 +217,7 @@ loop-again c =
     )
 
 text-length-requires : tie.Need-text-length-requires Inv-loop μ-loop
-text-length-requires c κs = ready-some (c .before .before .before .before .before .before .before .before .before .before .before .before .before .before .pre .0 .searchable .ready)
+text-length-requires c κs = ready-some (c .before .before .before .before .before .before .before .before .before .before .before .before .before .before .before .before .pre .0 .searchable .ready)
 
 ended-requires : tie.Need-ended-requires Inv-loop μ-loop
 ended-requires c κs = search needs
@@ -221,10 +227,10 @@ same-length-2 c = filled-length _ _ _ _ _ (c .before .before .before .loop .inv 
 
 returns-2 : tie.Need-returns-2 Inv-loop μ-loop
 returns-2 c =
-    let st = c .before .before .before .before .before .before .before .before .before .before .before .before .before .before .before .before in
+    let st = c .before .before .before .before .before .before .before .before .before .before .before .before .before .before .before .before .before .before in
     let t = textIn (st .args .s) (arrays (st .args .lengths .now) (st .args .bytes .now) (st .args .superblocks .now) (st .args .blocks .now)) in
     let ws = st .args .words .now in
-    let i = c .before .before .before .before .before .before .before .rarest .result in
+    let i = c .before .before .before .before .before .before .before .before .before .rarest .result in
     let w = getD ws i 0 in
     let P = stands t ws in
     let first = countOf w (take (st .args .next + i) t) in
@@ -232,8 +238,8 @@ returns-2 c =
     let n : c .before .text-length .result ≡ length t = c .before .text-length .ensures .1 _ _ _ _ _ (st .pre .0 .searchable .ready .checked) in
     written-result (pageOver P (length t) (length (st .args .lines .now)) (st .args .next) false) (st .args .lines .now) (l .lines) (l .count) _ _ _ (c .ended .result) (c .ended .ensures ∙ ap (endedAt (l .count)) n)
     (search-over P (candidate t w i) first (l .j) (st .args .lines .now) (l .lines) (l .count) (l .last) (l .inv .0) (l .inv .3)
-    (countOf w t) (st .args .next) (length t) (candidates-from t w i P (phrase-anchored t ws i (c .before .before .before .before .before .before .before .rarest .ensures .inside)) (st .args .next))
-    (omega (arith, c .before .before .before .before .before .frequency .ensures)))
+    (countOf w t) (st .args .next) (length t) (candidates-from t w i P (phrase-anchored t ws i (c .before .before .before .before .before .before .before .before .before .rarest .ensures .inside)) (st .args .next))
+    (omega (arith, c .before .before .before .before .before .before .before .frequency .ensures)))
 
 pub page-along-spec : {M : Type 1} → statement M
 page-along-spec =
@@ -248,8 +254,10 @@ page-along-spec =
     frequency-requires
     add-from
     below-requires
+    way-of-requires
+    nowhere-requires
     loop-holds
-    place-of-requires
+    place-along-requires
     sub-q
     stands-at-requires
     full-requires
