@@ -1,4 +1,7 @@
 //! The ten entries of the archive, over slices and as they are: nothing is sized, and the answer is the one that the engine gives.
+//!
+//! Each call is safe, since an entry asks nothing of its arguments but what a slice always has: it is not null, aligned, initialized and as
+//! long as it says, and one that is written is lent to nobody else.
 use crate::ffi;
 pub use crate::ffi::{Answer, Listing, Question, RawPage, Shape};
 
@@ -24,7 +27,6 @@ pub struct SlicesMut<'a> {
 /// The arrays are given with the method that yields the pointers.
 macro_rules! with_arrays {
     ($entry:ident($($front:expr),+; $arrays:ident.$pointer:ident; $($behind:expr),*)) => {
-        // A slice is not null, aligned, initialized and as long as it says; one that is written is lent to nobody else.
         unsafe {
             ffi::$entry(
                 $($front,)+
