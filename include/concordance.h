@@ -155,9 +155,9 @@ concordance_answer concordance_build(concordance_shape shape, const uint32_t *te
 
 /*
  * Checks an index: it passes exactly if some text of at most 16,777,216 words, with ranks below V, has the four slices as its index, none
- * of them longer or shorter and no element another. No two texts with the same V have the same index.
+ * of them longer or shorter. Two texts with the same V never share an index.
  * Returns: 0.
- * Writes: nothing.
+ * Writes: nothing, accepted or refused.
  * Refusals: 1 if V is outside its limits; 3 if B or b is 0, or S above 65,535; 6 if it does not pass. The value of each is 0.
  */
 concordance_answer concordance_check(concordance_shape shape, const uint32_t *lengths, size_t lengths_len, const uint8_t *bytes, size_t bytes_len,
@@ -166,7 +166,7 @@ concordance_answer concordance_check(concordance_shape shape, const uint32_t *le
 /*
  * Asks one question of an index; `words` are the lent words of which kind 5 takes its phrase, and no other kind looks at them.
  * Returns: the answer by the question's kind, as concordance_question says.
- * Writes: nothing.
+ * Writes: nothing, accepted or refused.
  * Refusals: 1, 3 and 6 as concordance_check; 7 if the kind is outside 1 to 5; then by the kind:
  *   1  11 if p is not below n
  *   2  9 if w is not below V; 11 if p is above n
@@ -174,7 +174,7 @@ concordance_answer concordance_check(concordance_shape shape, const uint32_t *le
  *   4  9 if w or v is not below V; 10 if d is outside -16 to 16
  *   5  8 if length is outside 1 to 16, or the part does not lie in the lent words (start + length above words_len, for any two numbers);
  *      9 if a word of the part is not below V
- * The value of each is 0. A phrase longer than the text, or a word or pair that does not stand in it, is no refusal: the answer is 0.
+ * The value of each is 0. In kinds 2, 4 and 5, what does not stand in the text is no refusal: the answer is 0.
  */
 concordance_answer concordance_ask(concordance_shape shape, const uint32_t *lengths, size_t lengths_len, const uint8_t *bytes, size_t bytes_len,
                                    const uint32_t *superblocks, size_t superblocks_len, const uint16_t *blocks, size_t blocks_len,
