@@ -1,6 +1,6 @@
 // Measures the engine side by side with a twin written by hand, with libsdsl, with a positional inverted index and with SQLite's
 // full-text search, all in one run over the same texts. It prints a table of ratios, the engine's time divided by the other's, and
-// writes a plot. Each answer that two of them give is compared before its time is printed.
+// writes a plot. Both sides of a ratio are run equally often, and each answer that two of them give is compared before its time is printed.
 #include <cstdlib>
 #include <cstring>
 #include <fstream>
@@ -15,11 +15,13 @@
 #include "twin.hpp"
 
 static const uint32_t vocabulary = 100000;
+// How often each thing is run, by the engine and by the other; the least time counts. An index of another program is built once.
+static const int runs = 5;
 static Table table;
 
 static void must(bool holds, const char *what) {
     if (!holds) {
-        std::fprintf(stderr, "%s: answers differ\n", what);
+        std::fprintf(stderr, "%s: refused, or not the same answer\n", what);
         std::exit(1);
     }
 }
@@ -90,55 +92,75 @@ static uint32_t answer(const twin::Index &index, const concordance_question &q, 
     }
 }
 
+// What the engine answered to the sheets of the five kinds, and the least time of each.
+struct Answered {
+    std::vector<uint32_t> values[6];
+    double spent[6];
+};
+
+static std::string sheet_of(int kind, const Asked &asked) {
+    return "sheet of kind " + std::to_string(kind) + ", " + std::to_string(asked.kinds[kind].size()) + " questions";
+}
+
 // The sheets of the five kinds: the check is paid once in each, by the engine and by the twin.
-static void sheets(const Engine &engine, const Asked &asked, double *spent) {
+static Answered sheets(const Engine &engine, const Asked &asked) {
+    Answered answered;
     for (int kind = 1; kind <= 5; kind++) {
         const auto &qs = asked.kinds[kind];
-        std::vector<uint32_t> ours(2 * qs.size()), theirs(qs.size());
-        const double one = seconds(3, [&] { must(engine.sheet(asked.words, qs, ours).refusal == 0, "sheet"); });
-        const double other = seconds(3, [&] {
+        std::vector<uint32_t> pairs(2 * qs.size()), theirs(qs.size()), &ours = answered.values[kind];
+        answered.spent[kind] = seconds(runs, [&] { must(engine.sheet(asked.words, qs, pairs).refusal == 0, "sheet"); });
+        const double other = seconds(runs, [&] {
             must(twin::check(engine.a, vocabulary), "check");
             const twin::Index index(engine.a);
             for (size_t i = 0; i < qs.size(); i++) theirs[i] = answer(index, qs[i], asked);
         });
-        for (size_t i = 0; i < qs.size(); i++) must(ours[2 * i] == 0 && ours[2 * i + 1] == theirs[i], "questions");
-        spent[kind] = one;
-        table.add(engine.a.lengths[0], "sheet of kind " + std::to_string(kind) + ", " + std::to_string(qs.size()) + " questions", one, "twin", other);
+        for (size_t i = 0; i < qs.size(); i++) {
+            must(pairs[2 * i] == 0, "sheet");
+            ours.push_back(pairs[2 * i + 1]);
+        }
+        must(ours == theirs, "sheet");
+        table.add(engine.a.lengths[0], sheet_of(kind, asked), answered.spent[kind], "twin", other);
     }
+    return answered;
 }
 
+// The first page of a phrase of two words that stands in the text.
 static void pages(const Engine &engine, const Asked &asked) {
-    const concordance_question &q = asked.kinds[5][0];
-    const uint32_t *phrase = &asked.words[q.start];
+    const uint32_t *phrase = &asked.words[asked.kinds[5][0].start];
     std::vector<uint32_t> ours(20), theirs(20);
-    uint32_t written = 0;
-    const double one = seconds(5, [&] { written = engine.page(concordance_open(), phrase, 2, ours).answer.value; });
+    concordance_page page;
+    const double one = seconds(runs, [&] { page = engine.page(concordance_open(), phrase, 2, ours); });
     uint32_t count = 0;
-    const double other = seconds(5, [&] {
+    bool more = false;
+    const double other = seconds(runs, [&] {
         must(twin::check(engine.a, vocabulary), "check");
-        twin::Index(engine.a).page(phrase, 2, 0, theirs, count);
+        more = twin::Index(engine.a).page(phrase, 2, 0, theirs, count);
     });
-    must(written == count && std::equal(ours.begin(), ours.begin() + count, theirs.begin()), "page");
-    table.add(engine.a.lengths[0], "a page of 20 lines", one, "twin", other);
+    must(page.answer.refusal == 0 && page.answer.value == count && page.more == more && ours == theirs, "page");
+    table.add(engine.a.lengths[0], "a page with room for 20 lines", one, "twin", other);
+}
 
-    std::vector<uint32_t> passage(10000), read(10000);
-    const double filled = seconds(5, [&] { must(engine.passage(5000, passage).refusal == 0, "passage"); });
-    const double again = seconds(5, [&] {
+static void passages(const Engine &engine, const std::vector<uint32_t> &text) {
+    std::vector<uint32_t> ours(10000), theirs(10000);
+    const double one = seconds(runs, [&] { must(engine.passage(5000, ours).refusal == 0, "passage"); });
+    const double other = seconds(runs, [&] {
         must(twin::check(engine.a, vocabulary), "check");
         const twin::Index index(engine.a);
-        for (size_t i = 0; i < read.size(); i++) read[i] = index.word_at(5000 + i);
+        for (size_t i = 0; i < theirs.size(); i++) theirs[i] = index.word_at(5000 + i);
     });
-    must(passage == read, "passage");
-    table.add(engine.a.lengths[0], "a passage of 10,000 words", filled, "twin", again);
+    must(ours == theirs && std::equal(ours.begin(), ours.end(), text.begin() + 5000), "passage");
+    table.add(engine.a.lengths[0], "a passage of 10,000 words", one, "twin", other);
 }
 
-// Reading a stream and a plain text, in the same run as a plain copy loop of the twin's.
+// Reading a stream and a plain text, the stream beside a plain loop over its bytes.
 static void reading(const std::vector<uint32_t> &text) {
     std::vector<uint8_t> stream(text.size() * 3);
     const size_t size = concordance_write_stream(vocabulary, text.data(), text.size(), stream.data(), stream.size()).value;
     std::vector<uint32_t> ours(text.size()), theirs(text.size());
-    const double one = seconds(3, [&] { concordance_read_stream(stream.data(), size, ours.data(), ours.size()); });
-    const double other = seconds(3, [&] {
+    const double one = seconds(runs, [&] {
+        must(concordance_read_stream(stream.data(), size, ours.data(), ours.size()).refusal == 0, "stream");
+    });
+    const double other = seconds(runs, [&] {
         size_t word = 0;
         for (size_t i = 0; i < size;) {
             uint32_t rank = 0, base = 0;
@@ -152,98 +174,124 @@ static void reading(const std::vector<uint32_t> &text) {
     std::string list, plain;
     for (uint32_t rank = 0; rank < vocabulary; rank++) list += spelling(rank) + '\n';
     for (uint32_t word : text) plain += spelling(word) + ' ';
-    const double read = seconds(1, [&] {
-        const auto answer = concordance_read_text((const uint8_t *)list.data(), list.size(), (const uint8_t *)plain.data(), plain.size(), ours.data(), ours.size());
-        must(answer.refusal == 0, "plain text");
+    std::fill(ours.begin(), ours.end(), 0);
+    std::fill(theirs.begin(), theirs.end(), 0);
+    const double read = seconds(runs, [&] {
+        const auto answer = concordance_read_text((const uint8_t *)list.data(), list.size(), (const uint8_t *)plain.data(), plain.size(),
+                                                  ours.data(), ours.size());
+        must(answer.refusal == 0 && answer.value == text.size(), "plain text");
     });
-    const double hashed = seconds(1, [&] { must(twin::read_text(list, plain, theirs), "plain text"); });
+    const double hashed = seconds(runs, [&] { must(twin::read_text(list, plain, theirs), "plain text"); });
     must(ours == text && theirs == text, "plain text");
     table.add(text.size(), "reading plain text", read, "twin", hashed);
     std::printf("reading plain text of %zu words, %u listed: %.1f MB/s\n", text.size(), vocabulary, plain.size() / read / 1e6);
 }
 
-// Phrases in libsdsl: along the rarest word in an integer wavelet tree, and in a compressed suffix array.
-static void libsdsl(const std::vector<uint32_t> &text, const Asked &asked, const std::vector<uint32_t> &counts, const double *spent) {
-    const double ours = spent[5];
+// Times another program on the questions of a kind, each answered by a function, and compares its answers with the engine's.
+template <class Answer>
+static void beside(const std::vector<uint32_t> &text, const Asked &asked, const Answered &engine, int kind, const std::string &what,
+                   const char *other, Answer answer) {
+    const auto &qs = asked.kinds[kind];
+    std::vector<uint32_t> theirs(qs.size());
+    const double time = seconds(runs, [&] {
+        for (size_t i = 0; i < qs.size(); i++) theirs[i] = answer(qs[i]);
+    });
+    must(theirs == engine.values[kind], other);
+    table.add(text.size(), what, engine.spent[kind], other, time);
+}
+
+// A phrase in a wavelet tree, along the occurrences of its rarest word.
+static uint32_t phrase_along(const sdsl::wt_int<> &tree, const uint32_t *phrase, size_t m) {
+    size_t rare = 0, often = SIZE_MAX;
+    uint32_t count = 0;
+    for (size_t i = 0; i < m; i++) {
+        const size_t here = tree.rank(tree.size(), phrase[i] + 1);
+        if (here < often) often = here, rare = i;
+    }
+    for (size_t j = 1; j <= often; j++) {
+        const size_t at = tree.select(j, phrase[rare] + 1);
+        if (at < rare || at - rare + m > tree.size()) continue;
+        bool same = true;
+        for (size_t i = 0; same && i < m; i++) same = i == rare || tree[at - rare + i] == phrase[i] + 1;
+        count += same;
+    }
+    return count;
+}
+
+// libsdsl: kinds 1 to 3 and phrases in an integer wavelet tree, and phrases in a compressed suffix array.
+static void libsdsl(const std::vector<uint32_t> &text, const Asked &asked, const Answered &engine) {
     sdsl::int_vector<> ranks(text.size(), 0, 17);
     for (size_t i = 0; i < text.size(); i++) ranks[i] = text[i] + 1;
     sdsl::wt_int<> tree;
     std::printf("libsdsl wt_int: built in %.3f s", seconds(1, [&] { sdsl::construct_im(tree, ranks); }));
     std::printf(", %.2f bytes a word\n", double(sdsl::size_in_bytes(tree)) / text.size());
-    table.add(text.size(), "sheet of kind 1, 20000 questions", spent[1], "libsdsl wt_int", seconds(1, [&] {
-        for (const auto &q : asked.kinds[1]) must(tree[q.p] == text[q.p] + 1, "wt_int");
-    }));
-    uint64_t sum = 0;
-    table.add(text.size(), "sheet of kind 2, 20000 questions", spent[2], "libsdsl wt_int", seconds(1, [&] {
-        for (const auto &q : asked.kinds[2]) sum += tree.rank(q.p, q.w + 1);
-    }));
-    table.add(text.size(), "sheet of kind 3, 20000 questions", spent[3], "libsdsl wt_int", seconds(1, [&] {
-        for (const auto &q : asked.kinds[3]) must(text[tree.select(q.p, q.w + 1)] == q.w, "wt_int");
-    }));
-    must(sum > 0, "wt_int");
-    const auto &qs = asked.kinds[5];
-    const double along = seconds(1, [&] {
-        for (size_t q = 0; q < qs.size(); q++) {
-            const uint32_t *phrase = &asked.words[qs[q].start];
-            const size_t m = qs[q].length;
-            size_t rare = 0, often = SIZE_MAX, count = 0;
-            for (size_t i = 0; i < m; i++) {
-                const size_t here = tree.rank(text.size(), phrase[i] + 1);
-                if (here < often) often = here, rare = i;
-            }
-            for (size_t j = 1; j <= often; j++) {
-                const size_t at = tree.select(j, phrase[rare] + 1);
-                if (at < rare || at - rare + m > text.size()) continue;
-                bool same = true;
-                for (size_t i = 0; same && i < m; i++) same = i == rare || tree[at - rare + i] == phrase[i] + 1;
-                count += same;
-            }
-            must(count == counts[q], "wt_int");
-        }
-    });
-    table.add(text.size(), "phrases, 400 counts", ours, "libsdsl wt_int", along);
+    using Question = concordance_question;
+    const char *name = "libsdsl wt_int";
+    beside(text, asked, engine, 1, sheet_of(1, asked), name, [&](const Question &q) { return uint32_t(tree[q.p]) - 1; });
+    beside(text, asked, engine, 2, sheet_of(2, asked), name, [&](const Question &q) { return tree.rank(q.p, q.w + 1); });
+    beside(text, asked, engine, 3, sheet_of(3, asked), name, [&](const Question &q) { return tree.select(q.p, q.w + 1); });
+    beside(text, asked, engine, 5, "phrases, 400 counts", name,
+           [&](const Question &q) { return phrase_along(tree, &asked.words[q.start], q.length); });
     sdsl::csa_wt_int<> suffixes;
     std::printf("libsdsl csa_wt_int: built in %.3f s", seconds(1, [&] { sdsl::construct_im(suffixes, ranks); }));
     std::printf(", %.2f bytes a word\n", double(sdsl::size_in_bytes(suffixes)) / text.size());
-    const double counted = seconds(1, [&] {
-        for (size_t q = 0; q < qs.size(); q++) {
-            sdsl::int_vector<> pattern(qs[q].length, 0, 17);
-            for (size_t i = 0; i < pattern.size(); i++) pattern[i] = asked.words[qs[q].start + i] + 1;
-            must(sdsl::count(suffixes, pattern.begin(), pattern.end()) == counts[q], "csa_wt_int");
-        }
+    beside(text, asked, engine, 5, "phrases, 400 counts", "libsdsl csa_wt_int", [&](const Question &q) {
+        uint32_t pattern[16];
+        for (size_t i = 0; i < q.length; i++) pattern[i] = asked.words[q.start + i] + 1;
+        return sdsl::count(suffixes, pattern, pattern + q.length);
     });
-    table.add(text.size(), "phrases, 400 counts", ours, "libsdsl csa_wt_int", counted);
 }
 
-static void inverted(const std::vector<uint32_t> &text, const Asked &asked, const std::vector<uint32_t> &counts, const double *spent) {
-    const double ours = spent[5];
+static void inverted(const std::vector<uint32_t> &text, const Asked &asked, const Answered &engine) {
     Inverted *index = nullptr;
     const double built = seconds(1, [&] { index = new Inverted(text, vocabulary); });
     std::printf("inverted index: built in %.3f s, %.2f bytes a word\n", built, double(index->space()) / text.size());
-    const double counted = seconds(3, [&] {
-        for (size_t q = 0; q < asked.kinds[5].size(); q++)
-            must(index->phrase(&asked.words[asked.kinds[5][q].start], asked.kinds[5][q].length) == counts[q], "inverted");
-    });
-    table.add(text.size(), "phrases, 400 counts", ours, "inverted index", counted);
-    uint64_t sum = 0;
-    table.add(text.size(), "sheet of kind 4, 400 questions", spent[4], "inverted index", seconds(3, [&] {
-        for (const auto &q : asked.kinds[4]) sum += index->neighbours(q.w, q.v, q.d);
-    }));
-    must(sum > 0, "inverted");
+    using Question = concordance_question;
+    beside(text, asked, engine, 5, "phrases, 400 counts", "inverted index",
+           [&](const Question &q) { return index->phrase(&asked.words[q.start], q.length); });
+    beside(text, asked, engine, 4, sheet_of(4, asked), "inverted index", [&](const Question &q) { return index->neighbours(q.w, q.v, q.d); });
     delete index;
 }
 
-// SQLite's FTS5 over rows of 1,000 words: it counts rows that have the phrase, so its counts are not compared.
-static void fts5(const std::vector<uint32_t> &text, const Asked &asked, double ours) {
+// The words of a row of FTS5, and how many words of the next row it has beside them: with the most words of a phrase less one, each phrase
+// stands whole in the row in which it begins.
+static const size_t row_words = 1000, row_overlap = 3;
+
+// The auxiliary function of FTS5 that counts the places of the phrase which begin in the row itself.
+static void count_places(const Fts5ExtensionApi *api, Fts5Context *row, sqlite3_context *result, int, sqlite3_value **) {
+    int hits = 0, inside = 0;
+    api->xInstCount(row, &hits);
+    for (int i = 0; i < hits; i++) {
+        int phrase, column, at;
+        api->xInst(row, i, &phrase, &column, &at);
+        inside += at < int(row_words);
+    }
+    sqlite3_result_int(result, inside);
+}
+
+static void add_count_places(sqlite3 *db) {
+    fts5_api *api = nullptr;
+    sqlite3_stmt *ask;
+    sqlite3_prepare_v2(db, "SELECT fts5(?)", -1, &ask, nullptr);
+    sqlite3_bind_pointer(ask, 1, &api, "fts5_api_ptr", nullptr);
+    sqlite3_step(ask);
+    sqlite3_finalize(ask);
+    must(api != nullptr && api->xCreateFunction(api, "places", nullptr, count_places, nullptr) == SQLITE_OK, "FTS5");
+}
+
+// SQLite's FTS5: it counts the rows that have a phrase, which is no answer of the engine's, and the places of a phrase.
+static void fts5(const std::vector<uint32_t> &text, const Asked &asked, const Answered &engine) {
     sqlite3 *db;
     sqlite3_open(":memory:", &db);
+    add_count_places(db);
     sqlite3_exec(db, "CREATE VIRTUAL TABLE t USING fts5(x, content=''); BEGIN", nullptr, nullptr, nullptr);
     const double built = seconds(1, [&] {
         sqlite3_stmt *insert;
         sqlite3_prepare_v2(db, "INSERT INTO t(rowid, x) VALUES (?, ?)", -1, &insert, nullptr);
-        for (size_t row = 0; row * 1000 < text.size(); row++) {
+        for (size_t row = 0; row * row_words < text.size(); row++) {
             std::string words;
-            for (size_t i = row * 1000; i < std::min(text.size(), (row + 1) * 1000); i++) words += spelling(text[i]) + ' ';
+            const size_t end = std::min(text.size(), (row + 1) * row_words + row_overlap);
+            for (size_t i = row * row_words; i < end; i++) words += spelling(text[i]) + ' ';
             sqlite3_bind_int64(insert, 1, row + 1);
             sqlite3_bind_text(insert, 2, words.data(), words.size(), SQLITE_TRANSIENT);
             sqlite3_step(insert);
@@ -257,47 +305,52 @@ static void fts5(const std::vector<uint32_t> &text, const Asked &asked, double o
     sqlite3_step(ask);
     std::printf("SQLite FTS5: built in %.3f s, %.2f bytes a word\n", built, double(sqlite3_column_int64(ask, 0)) / text.size());
     sqlite3_finalize(ask);
+    auto counted = [&](const concordance_question &q) {
+        std::string phrase = "\"";
+        for (size_t i = 0; i < q.length; i++) phrase += spelling(asked.words[q.start + i]) + (i + 1 < q.length ? " " : "\"");
+        sqlite3_bind_text(ask, 1, phrase.data(), phrase.size(), SQLITE_TRANSIENT);
+        uint32_t count = 0;
+        while (sqlite3_step(ask) == SQLITE_ROW) count += sqlite3_column_int64(ask, 0);
+        must(sqlite3_reset(ask) == SQLITE_OK, "FTS5");
+        return count;
+    };
     sqlite3_prepare_v2(db, "SELECT count(*) FROM t WHERE t MATCH ?", -1, &ask, nullptr);
-    const double counted = seconds(1, [&] {
-        for (const auto &q : asked.kinds[5]) {
-            std::string phrase = "\"";
-            for (size_t i = 0; i < q.length; i++) phrase += spelling(asked.words[q.start + i]) + (i + 1 < q.length ? " " : "\"");
-            sqlite3_bind_text(ask, 1, phrase.data(), phrase.size(), SQLITE_TRANSIENT);
-            must(sqlite3_step(ask) == SQLITE_ROW, "FTS5");
-            sqlite3_reset(ask);
-        }
+    uint64_t rows = 0;
+    const double time = seconds(runs, [&] {
+        for (const auto &q : asked.kinds[5]) rows += counted(q);
     });
+    must(rows > 0, "FTS5");
+    table.add(text.size(), "phrases, 400 counts", engine.spent[5], "SQLite FTS5 (rows)", time);
+    sqlite3_finalize(ask);
+    sqlite3_prepare_v2(db, "SELECT places(t) FROM t WHERE t MATCH ?", -1, &ask, nullptr);
+    beside(text, asked, engine, 5, "phrases, 400 counts", "SQLite FTS5 (places)", counted);
     sqlite3_finalize(ask);
     sqlite3_close(db);
-    table.add(text.size(), "phrases, 400 counts", ours, "SQLite FTS5 (rows)", counted);
 }
 
 static void measure(size_t n, uint32_t block, uint32_t per, bool peers) {
     const std::vector<uint32_t> text = zipf_text(n, vocabulary, 20261115);
-    twin::Arrays made;
-    const double other = seconds(2, [&] { made = twin::build(vocabulary, block, per, text); });
+    twin::Arrays made = twin::sized(vocabulary, block, per, twin::stream_length(text));
     Engine engine{{vocabulary, block, per}, made};
-    const double one = seconds(2, [&] { must(engine.build(text).refusal == 0, "build"); });
-    must(engine.a.bytes == made.bytes && engine.a.blocks == made.blocks && engine.a.superblocks == made.superblocks, "build");
+    const double one = seconds(runs, [&] { must(engine.build(text).refusal == 0, "build"); });
+    const double other = seconds(runs, [&] { twin::build(text, made); });
+    must(engine.a == made, "build");
     table.add(n, "build", one, "twin", other);
-    const double checked = seconds(5, [&] { must(engine.check().refusal == 0, "check"); });
-    table.add(n, "check", checked, "twin", seconds(5, [&] { must(twin::check(made, vocabulary), "check"); }));
+    const double checked = seconds(runs, [&] { must(engine.check().refusal == 0, "check"); });
+    table.add(n, "check", checked, "twin", seconds(runs, [&] { must(twin::check(made, vocabulary), "check"); }));
     uint64_t sum = 0;
-    table.add(n, "check", checked, "plain histogram", seconds(5, [&] { sum += twin::histogram(made.bytes); }));
+    table.add(n, "check", checked, "plain histogram", seconds(runs, [&] { sum += twin::histogram(made.bytes); }));
     std::printf("the index: B %u, b %u, %.2f bytes a word, of which %.2f are node bytes (%llu)\n", block, per, double(made.space()) / n,
                 double(made.bytes.size()) / n, (unsigned long long)sum % 10);
     const Asked asked = questions(text, twin::Index(engine.a), 7);
-    double spent[6];
-    sheets(engine, asked, spent);
+    const Answered answered = sheets(engine, asked);
     pages(engine, asked);
+    passages(engine, text);
     reading(text);
     if (!peers) return;
-    const twin::Index index(engine.a);
-    std::vector<uint32_t> counts;
-    for (const auto &q : asked.kinds[5]) counts.push_back(answer(index, q, asked));
-    inverted(text, asked, counts, spent);
-    libsdsl(text, asked, counts, spent);
-    fts5(text, asked, spent[5]);
+    inverted(text, asked, answered);
+    libsdsl(text, asked, answered);
+    fts5(text, asked, answered);
 }
 
 // Time against n of each thing that was measured beside the twin.

@@ -16,6 +16,12 @@
  * value that the table below gives, and writes nothing: all lent memory stays as it was. Where several refusals apply, the lowest number is
  * returned, but what is worked out from the arrays of a lent index is tried only after 6. The refusals of each call are listed at it in the
  * order in which they are tried. No call keeps a pointer, and equal arguments have equal answers.
+ *
+ * Stack. No call allocates memory; its tables lie on the stack. The most that a call needs, as bench/stack.c measures it on x86-64:
+ *   concordance_read_text: 1574 KB
+ *   concordance_build, concordance_ask, concordance_answer_sheet, concordance_passage, concordance_list: 265 KB
+ *   concordance_check: 3 KB
+ *   concordance_write_stream, concordance_read_stream, concordance_open: less than 1 KB
  */
 #ifndef CONCORDANCE_H
 #define CONCORDANCE_H
@@ -117,51 +123,70 @@ typedef struct {
 } concordance_page;
 
 /*
- * Writes a text as a stream: the codewords of its ranks, one after another, in front of `stream`. The elements past them stay.
+ * Writes a text as a stream.
  * Returns: the number of bytes written.
- * Refusals: 1; 2 for a text of too many words; 4 with the first place whose rank is not below V; 5 if `stream` is too short.
+ * Writes: the codewords of the ranks, one after another, in front of `stream`; the elements past them stay.
+ * Refusals: 1 if V is outside its limits; 2 if text_len is above 16,777,216; 4, with the first place whose rank is not below V; 5 if
+ * `stream` is shorter than the codewords. The value of the others is 0. A refused call changes nothing.
  */
 concordance_answer concordance_write_stream(size_t vocabulary, const uint32_t *text, size_t text_len, uint8_t *stream, size_t stream_len);
 
 /*
- * Reads a stream: writes the ranks of its codewords in front of `text`. The elements past them stay.
+ * Reads a stream.
  * Returns: the number of words written.
- * Refusals: 2 and 5, where each byte 80 to FF counts for a word and needs an element, in a broken stream too; then 15 for a broken stream.
+ * Writes: the ranks of the codewords, in order, in front of `text`; the elements past them stay.
+ * Refusals: 2 if the stream has more than 16,777,216 bytes 80 to FF; 5 if `text` has fewer elements than the stream has such bytes; 15 if a
+ * codeword has over three bytes or the stream ends inside one. For 2 and 5 the bytes are counted in a broken stream too. The value of each
+ * is 0. A refused call changes nothing.
  */
 concordance_answer concordance_read_stream(const uint8_t *stream, size_t stream_len, uint32_t *text, size_t text_len);
 
 /*
- * Builds the index of a text in front of the four slices. The elements past it stay in each.
+ * Builds the index of a text.
  * Returns: L, the number of node bytes.
- * Refusals: 1; 2 for a text of too many words; 3; 4 with the first place whose rank is not below V; 5 if one of the slices is too short.
+ * Writes: the four arrays of the index, each in front of its slice (their sizes are given above); the elements past them stay.
+ * Refusals: 1 if V is outside its limits; 2 if text_len is above 16,777,216; 3 if B or b is 0, or S above 65,535; 4, with the first place
+ * whose rank is not below V; 5 if one of the four slices is shorter than its array. The value of the others is 0. A refused call changes
+ * nothing.
  */
 concordance_answer concordance_build(concordance_shape shape, const uint32_t *text, size_t text_len,
                                      uint32_t *lengths, size_t lengths_len, uint8_t *bytes, size_t bytes_len,
                                      uint32_t *superblocks, size_t superblocks_len, uint16_t *blocks, size_t blocks_len);
 
 /*
- * Checks an index: it passes exactly if some text with ranks below V has the four arrays as its index, none of them longer or shorter.
- * Writes nothing. Returns: 0.
- * Refusals: 1; 3; 6 if it does not pass.
+ * Checks an index: it passes exactly if some text of at most 16,777,216 words, with ranks below V, has the four slices as its index, none
+ * of them longer or shorter. Two texts with the same V never share an index.
+ * Returns: 0.
+ * Writes: nothing, accepted or refused.
+ * Refusals: 1 if V is outside its limits; 3 if B or b is 0, or S above 65,535; 6 if it does not pass. The value of each is 0.
  */
 concordance_answer concordance_check(concordance_shape shape, const uint32_t *lengths, size_t lengths_len, const uint8_t *bytes, size_t bytes_len,
                                      const uint32_t *superblocks, size_t superblocks_len, const uint16_t *blocks, size_t blocks_len);
 
 /*
- * Asks one question of an index; `words` are the lent words of which kind 5 takes its phrase. Writes nothing.
- * Returns: the answer by the question's kind.
- * Refusals: 1; 3; 6; 7 for the kind; then of kind 1: 11; of kinds 2 and 3: 9, 11; of kind 4: 9, 10; of kind 5: 8, 9.
+ * Asks one question of an index; `words` are the lent words of which kind 5 takes its phrase, and no other kind looks at them.
+ * Returns: the answer by the question's kind, as concordance_question says.
+ * Writes: nothing, accepted or refused.
+ * Refusals: 1, 3 and 6 as concordance_check; 7 if the kind is outside 1 to 5; then by the kind:
+ *   1  11 if p is not below n
+ *   2  9 if w is not below V; 11 if p is above n
+ *   3  9 if w is not below V; 11 if p is 0 or above the number of places where w stands
+ *   4  9 if w or v is not below V; 10 if d is outside -16 to 16
+ *   5  8 if length is outside 1 to 16, or the part does not lie in the lent words (start + length above words_len, for any two numbers);
+ *      9 if a word of the part is not below V
+ * The value of each is 0. In kinds 2, 4 and 5, what does not stand in the text is no refusal: the answer is 0.
  */
 concordance_answer concordance_ask(concordance_shape shape, const uint32_t *lengths, size_t lengths_len, const uint8_t *bytes, size_t bytes_len,
                                    const uint32_t *superblocks, size_t superblocks_len, const uint16_t *blocks, size_t blocks_len,
                                    const uint32_t *words, size_t words_len, concordance_question question);
 
 /*
- * Answers a sheet of questions of an index, each as concordance_ask answers it; the check is made once. Writes a pair for each question in
- * front of `answers`, in order: question i has its refusal, or 0, at 2 * i and its value at 2 * i + 1. The elements past the pairs stay.
- * Refusals 7 to 11 go into the question's own pair, with the value 0, and do not turn down the sheet.
+ * Answers a sheet of questions of an index, each as concordance_ask answers it; the check is made once.
  * Returns: twice the number of questions. An empty sheet is accepted, writes nothing and returns 0.
- * Refusals: 1; 3; 6; 12 if `answers` is shorter than two elements for each question.
+ * Writes: a pair for each question in front of `answers`, in order: question i has its refusal, or 0, at 2 * i and its value at 2 * i + 1;
+ * the elements past the pairs stay. The refusals 7 to 11 go into the question's own pair, with the value 0, and do not turn down the sheet.
+ * Refusals: 1, 3 and 6 as concordance_check; 12 if `answers` is shorter than two elements for each question. The value of each is 0. A
+ * refused sheet changes nothing.
  */
 concordance_answer concordance_answer_sheet(concordance_shape shape, const uint32_t *lengths, size_t lengths_len, const uint8_t *bytes, size_t bytes_len,
                                             const uint32_t *superblocks, size_t superblocks_len, const uint16_t *blocks, size_t blocks_len,
@@ -169,25 +194,36 @@ concordance_answer concordance_answer_sheet(concordance_shape shape, const uint3
                                             uint32_t *answers, size_t answers_len);
 
 /*
- * Fills the whole of `passage` with the ranks from `place` on, the last of which must lie in the text.
- * Returns: passage_len. An empty passage is filled for any place up to n.
- * Refusals: 1; 3; 6; 11 if place + passage_len is above n.
+ * Reads a passage of the text back from its index.
+ * Returns: passage_len.
+ * Writes: the whole of `passage`, with the ranks from `place` on. An empty passage is accepted for any place up to n, n too, and writes
+ * nothing.
+ * Refusals: 1, 3 and 6 as concordance_check; 11 if the passage does not end in the text (place + passage_len above n, for any two numbers).
+ * The value of each is 0. A refused call changes nothing.
  */
 concordance_answer concordance_passage(concordance_shape shape, const uint32_t *lengths, size_t lengths_len, const uint8_t *bytes, size_t bytes_len,
                                        const uint32_t *superblocks, size_t superblocks_len, const uint16_t *blocks, size_t blocks_len,
                                        size_t place, uint32_t *passage, size_t passage_len);
 
-/* Opens a listing. Returns: next 0, not finished. It refuses nothing. */
+/*
+ * Opens a listing.
+ * Returns: the state with next 0, not finished.
+ * Writes: nothing.
+ * Refusals: none.
+ */
 concordance_listing concordance_open(void);
 
 /*
- * The next page of the listing of a phrase, which is the part (start, length) of the lent words: writes the places at or after
- * listing.next where it stands, ascending, in front of `lines`, until the slice is full or there are no more. The elements past them stay.
- * Returns: `answer`, the number of places written; `more`, whether the slice is full and another place follows; `listing`, the state for
- * the next page: if more follow, next is the last place written plus 1, and otherwise it is finished with next n. A finished state writes
- * nothing, returns 0 and not more, and comes back the same.
- * Refusals: 1; 3; 6; 8 and 9 for the phrase; 11 if listing.next is above n, finished or not; 12 if `lines` is empty. Each returns not more
- * and the state that was given.
+ * The next page of the listing of a phrase, which is the part (start, length) of the lent words.
+ * Returns: in `answer` the number of places written; in `more` whether the page is full and another place follows; in `listing` the state
+ * for the next page. If more follow, its next is the last place written plus 1; otherwise it is finished with next n. A full page that no
+ * further place follows does not report more. A finished state is accepted and refused like any other; accepted, it writes nothing,
+ * returns 0 and not more, and comes back the same.
+ * Writes: the places at or after listing.next where the phrase stands, ascending, in front of `lines`, until it is full or there are no
+ * more; the elements past them stay.
+ * Refusals: 1, 3 and 6 as concordance_check; 8 and 9 for the phrase as concordance_ask, kind 5; 11 if listing.next is above n, finished or
+ * not; 12 if `lines` is empty. The value of each is 0; `more` is false, and `listing` is the state that was given. A refused page changes
+ * nothing, and the listing goes on with the next call.
  */
 concordance_page concordance_list(concordance_listing listing, concordance_shape shape, const uint32_t *lengths, size_t lengths_len,
                                   const uint8_t *bytes, size_t bytes_len, const uint32_t *superblocks, size_t superblocks_len,
@@ -195,12 +231,15 @@ concordance_page concordance_list(concordance_listing listing, concordance_shape
                                   uint32_t *lines, size_t lines_len);
 
 /*
- * Reads plain text of ISO 8859-1 through a word list: writes the rank of each word in front of `ranks`. The elements past them stay.
- * A word is a longest run of letters and digits, its capitals made small. The list gives the words in rank order, each closed by 0A.
+ * Reads plain text of ISO 8859-1 through a word list. A word is a longest run of letters and digits, its capitals made small: the bytes 30
+ * to 39, 61 to 7A and DF to FF without F7 are kept, 41 to 5A and C0 to DE without D7 gain 20 (hexadecimal), all others are separators. The
+ * list gives V words in rank order, each closed by 0A.
  * Returns: the number of words of the text.
- * Refusals: 1 for the number of 0A bytes of the list; 2 and 5 for the number of words of the text, listed or not; 13 if a word of the list
- * is empty, stands there twice, is not closed, or has a byte that the letter table does not keep; 14 with the byte offset of the first word
- * of the text that is not in the list.
+ * Writes: the rank of each word, in order, in front of `ranks`; the elements past them stay.
+ * Refusals: 1 if V, the number of 0A bytes of the list, is outside its limits; 2 if the text has more than 16,777,216 words, listed or not;
+ * 5 if `ranks` has fewer elements than the text has words, listed or not; 13 if a word of the list is empty, stands there twice, is not
+ * closed, or has a byte that is not kept; 14, with the byte offset at which the first word of the text starts that is not in the list. The
+ * value of the others is 0. A refused call changes nothing.
  */
 concordance_answer concordance_read_text(const uint8_t *list, size_t list_len, const uint8_t *text, size_t text_len, uint32_t *ranks, size_t ranks_len);
 

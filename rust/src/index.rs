@@ -1,8 +1,9 @@
 //! The index of a text, as an owned value.
-use crate::ffi::{self, Question, Shape};
+use crate::entries::{self, Slices, SlicesMut};
+use crate::ffi::{Question, Shape};
 use crate::listing::Pages;
 use crate::refusal::{Refusal, Refused};
-use crate::MAX_VOCABULARY;
+use crate::{LONGEST_CODEWORD, MAX_SUPERBLOCK, MAX_VOCABULARY, MAX_WORDS};
 
 /// The number of closing byte values of the code, which is the number of ranks that end in a node.
 const CLOSING: usize = 128;
@@ -33,21 +34,42 @@ impl Shape {
         };
         Shape { vocabulary, block, per_superblock: 8 }
     }
+
+    /// Whether V, B and b are within their limits.
+    fn fits(self) -> bool {
+        let superblock = self.block.checked_mul(self.per_superblock);
+        (1..=MAX_VOCABULARY).contains(&self.vocabulary)
+            && superblock.is_some_and(|superblock| (1..=MAX_SUPERBLOCK).contains(&superblock))
+    }
 }
 
 impl Arrays {
-    /// Arrays with as many elements as an index of so many node bytes needs; empty where V, B or b
-    /// is outside its limits.
+    /// Arrays with as many elements as an index of so many node bytes needs; empty where V, B, b or the number of bytes is outside its
+    /// limits, so that nothing is allocated for a call that the engine turns down.
     pub fn sized(shape: Shape, bytes: usize) -> Arrays {
-        let superblock = shape.block.saturating_mul(shape.per_superblock);
-        if superblock == 0 || shape.vocabulary > MAX_VOCABULARY {
+        if !shape.fits() || bytes > MAX_WORDS * LONGEST_CODEWORD {
             return Arrays::default();
         }
         Arrays {
             lengths: vec![0; shape.vocabulary.div_ceil(CLOSING)],
             bytes: vec![0; bytes],
-            superblocks: vec![0; 256 * (bytes / superblock + 1)],
+            superblocks: vec![0; 256 * (bytes / (shape.block * shape.per_superblock) + 1)],
             blocks: vec![0; 256 * (bytes / shape.block + 1)],
+        }
+    }
+
+    /// The four arrays, lent to be read.
+    pub fn slices(&self) -> Slices<'_> {
+        Slices { lengths: &self.lengths, bytes: &self.bytes, superblocks: &self.superblocks, blocks: &self.blocks }
+    }
+
+    /// The four arrays, lent to be filled.
+    pub fn slices_mut(&mut self) -> SlicesMut<'_> {
+        SlicesMut {
+            lengths: &mut self.lengths,
+            bytes: &mut self.bytes,
+            superblocks: &mut self.superblocks,
+            blocks: &mut self.blocks,
         }
     }
 }
@@ -55,43 +77,15 @@ impl Arrays {
 impl Index {
     /// Builds the index of a text.
     pub fn build(shape: Shape, text: &[u32]) -> Result<Index, Refused> {
-        let mut a = Arrays::sized(shape, stream_length(text));
-        let answer = unsafe {
-            ffi::concordance_build(
-                shape,
-                text.as_ptr(),
-                text.len(),
-                a.lengths.as_mut_ptr(),
-                a.lengths.len(),
-                a.bytes.as_mut_ptr(),
-                a.bytes.len(),
-                a.superblocks.as_mut_ptr(),
-                a.superblocks.len(),
-                a.blocks.as_mut_ptr(),
-                a.blocks.len(),
-            )
-        };
-        answer.result()?;
-        Ok(Index { shape, arrays: a })
+        let mut arrays =
+            if text.len() > MAX_WORDS { Arrays::default() } else { Arrays::sized(shape, stream_length(text)) };
+        entries::build(shape, text, arrays.slices_mut()).result()?;
+        Ok(Index { shape, arrays })
     }
 
     /// Takes four arrays that pass the check.
     pub fn from_arrays(shape: Shape, arrays: Arrays) -> Result<Index, Refused> {
-        let a = &arrays;
-        let answer = unsafe {
-            ffi::concordance_check(
-                shape,
-                a.lengths.as_ptr(),
-                a.lengths.len(),
-                a.bytes.as_ptr(),
-                a.bytes.len(),
-                a.superblocks.as_ptr(),
-                a.superblocks.len(),
-                a.blocks.as_ptr(),
-                a.blocks.len(),
-            )
-        };
-        answer.result()?;
+        entries::check(shape, arrays.slices()).result()?;
         Ok(Index { shape, arrays })
     }
 
@@ -117,51 +111,14 @@ impl Index {
 
     /// Answers one question; kind 5 takes its phrase from the lent words.
     pub fn ask(&self, words: &[u32], question: Question) -> Result<usize, Refused> {
-        let a = &self.arrays;
-        let answer = unsafe {
-            ffi::concordance_ask(
-                self.shape,
-                a.lengths.as_ptr(),
-                a.lengths.len(),
-                a.bytes.as_ptr(),
-                a.bytes.len(),
-                a.superblocks.as_ptr(),
-                a.superblocks.len(),
-                a.blocks.as_ptr(),
-                a.blocks.len(),
-                words.as_ptr(),
-                words.len(),
-                question,
-            )
-        };
-        answer.result()
+        entries::ask(self.shape, self.arrays.slices(), words, question).result()
     }
 
     /// Answers a sheet of questions, in order; the check is made once.
     pub fn answer_sheet(&self, words: &[u32], questions: &[Question]) -> Result<Vec<Result<u32, Refusal>>, Refused> {
-        let a = &self.arrays;
         let mut answers = vec![0; 2 * questions.len()];
-        let answer = unsafe {
-            ffi::concordance_answer_sheet(
-                self.shape,
-                a.lengths.as_ptr(),
-                a.lengths.len(),
-                a.bytes.as_ptr(),
-                a.bytes.len(),
-                a.superblocks.as_ptr(),
-                a.superblocks.len(),
-                a.blocks.as_ptr(),
-                a.blocks.len(),
-                words.as_ptr(),
-                words.len(),
-                questions.as_ptr(),
-                questions.len(),
-                answers.as_mut_ptr(),
-                answers.len(),
-            )
-        };
-        answer.result()?;
-        Ok(answers.chunks(2).map(|pair| single(pair[0], pair[1])).collect())
+        entries::answer_sheet(self.shape, self.arrays.slices(), words, questions, &mut answers).result()?;
+        Ok(answers.chunks(2).map(|pair| Refusal::reported(pair[0]).map_or(Ok(pair[1]), Err)).collect())
     }
 
     /// How often a phrase stands in the text.
@@ -171,28 +128,8 @@ impl Index {
 
     /// So many ranks of the text from a place on.
     pub fn passage(&self, place: usize, length: usize) -> Result<Vec<u32>, Refused> {
-        let a = &self.arrays;
-        if length > self.words() {
-            return Err(Refused { refusal: Refusal::Place, value: 0 });
-        }
-        let mut ranks = vec![0; length];
-        let answer = unsafe {
-            ffi::concordance_passage(
-                self.shape,
-                a.lengths.as_ptr(),
-                a.lengths.len(),
-                a.bytes.as_ptr(),
-                a.bytes.len(),
-                a.superblocks.as_ptr(),
-                a.superblocks.len(),
-                a.blocks.as_ptr(),
-                a.blocks.len(),
-                place,
-                ranks.as_mut_ptr(),
-                ranks.len(),
-            )
-        };
-        answer.result()?;
+        let mut ranks = vec![0; length.min(self.one_too_many())];
+        entries::passage(self.shape, self.arrays.slices(), place, &mut ranks).result()?;
         Ok(ranks)
     }
 
@@ -200,13 +137,11 @@ impl Index {
     pub fn pages<'a>(&'a self, phrase: &'a [u32], lines: usize) -> Pages<'a> {
         Pages::open(self, phrase, lines)
     }
-}
 
-/// The answer of a pair of a sheet.
-fn single(refusal: u32, value: u32) -> Result<u32, Refusal> {
-    match Refusal::from_number(refusal) {
-        Some(refusal) => Err(refusal),
-        None => Ok(value),
+    /// One element more than the text has words: no passage has so many, and no page can be full with so many. Longer slices have the
+    /// same answers, so none is made.
+    pub(crate) fn one_too_many(&self) -> usize {
+        self.words() + 1
     }
 }
 
@@ -216,7 +151,7 @@ fn stream_length(text: &[u32]) -> usize {
         .map(|&rank| match rank {
             0..=127 => 1,
             128..=16_511 => 2,
-            _ => 3,
+            _ => LONGEST_CODEWORD,
         })
         .sum()
 }

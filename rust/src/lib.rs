@@ -5,8 +5,10 @@
 //! and plain text are read and written by functions of their own. Every refusal of the engine comes
 //! back as a [`Refused`], with the number and the value of the engine's table.
 //!
-//! Nothing here decides an answer: the functions lend slices to the engine and hand on what it says.
-pub mod ffi;
+//! Nothing here decides an answer: the functions lend slices to the engine and hand on what it says. The module [`entries`] has the ten
+//! entries themselves, over slices that the caller makes.
+pub mod entries;
+mod ffi;
 mod index;
 mod listing;
 mod refusal;
@@ -24,3 +26,5 @@ pub const MAX_VOCABULARY: usize = 2_113_664;
 pub const MAX_WORDS: usize = 16_777_216;
 /// The most bytes of a superblock.
 pub const MAX_SUPERBLOCK: usize = 65_535;
+/// The most bytes of a codeword.
+pub const LONGEST_CODEWORD: usize = 3;

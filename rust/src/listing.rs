@@ -1,5 +1,6 @@
 //! The pages of a listing.
-use crate::ffi::{self, Listing};
+use crate::entries;
+use crate::ffi::Listing;
 use crate::index::Index;
 use crate::refusal::Refused;
 
@@ -22,8 +23,7 @@ pub struct Pages<'a> {
 
 impl<'a> Pages<'a> {
     pub(crate) fn open(index: &'a Index, phrase: &'a [u32], lines: usize) -> Pages<'a> {
-        let listing = unsafe { ffi::concordance_open() };
-        Pages { index, phrase, lines, listing, ended: false }
+        Pages { index, phrase, lines: lines.min(index.one_too_many()), listing: entries::open(), ended: false }
     }
 
     /// The state that the next page takes.
@@ -32,28 +32,9 @@ impl<'a> Pages<'a> {
     }
 
     fn page(&mut self) -> Result<Page, Refused> {
-        let a = self.index.arrays();
+        let (shape, arrays) = (self.index.shape(), self.index.arrays().slices());
         let mut places = vec![0; self.lines];
-        let page = unsafe {
-            ffi::concordance_list(
-                self.listing,
-                self.index.shape(),
-                a.lengths.as_ptr(),
-                a.lengths.len(),
-                a.bytes.as_ptr(),
-                a.bytes.len(),
-                a.superblocks.as_ptr(),
-                a.superblocks.len(),
-                a.blocks.as_ptr(),
-                a.blocks.len(),
-                self.phrase.as_ptr(),
-                self.phrase.len(),
-                0,
-                self.phrase.len(),
-                places.as_mut_ptr(),
-                places.len(),
-            )
-        };
+        let page = entries::list(self.listing, shape, arrays, self.phrase, 0, self.phrase.len(), &mut places);
         self.listing = page.listing;
         self.ended = !page.more;
         places.truncate(page.answer.result()?);

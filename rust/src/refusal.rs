@@ -46,6 +46,11 @@ impl Refusal {
         Refusal::ALL.into_iter().find(|row| row.number() == number)
     }
 
+    /// The refusal that the engine reports with a number; none for 0, which says that the call was accepted.
+    pub(crate) fn reported(number: u32) -> Option<Refusal> {
+        (number != 0).then(|| Refusal::from_number(number).expect("the engine's numbers are those of the table"))
+    }
+
     /// The number of the row.
     pub fn number(self) -> u32 {
         self as u32
@@ -55,10 +60,14 @@ impl Refusal {
     pub fn words(self) -> &'static str {
         match self {
             Refusal::Vocabulary => "V outside its limits; for a list, V is its number of 0A bytes",
-            Refusal::Words => "a text, stream or plain text of more than 16,777,216 words",
+            Refusal::Words => {
+                "a text, stream or plain text of more than 16,777,216 words; in a stream, bytes 80 to FF are counted"
+            }
             Refusal::Blocks => "B or b is 0, or S above 65,535",
             Refusal::TextRank => "a rank of the text to index or code is not below V",
-            Refusal::ShortSlice => "a slice to be built or filled is shorter than needed",
+            Refusal::ShortSlice => {
+                "a slice to be built or filled by indexing, stream work or reading is shorter than needed"
+            }
             Refusal::Index => "the check does not pass",
             Refusal::Kind => "kind outside 1 to 5",
             Refusal::Phrase => "phrase length outside 1 to 16, or part outside the lent words",
@@ -66,14 +75,18 @@ impl Refusal {
             Refusal::Offset => "offset outside -16 to 16",
             Refusal::Place => "place or ordinal outside its range; a listing's next place above n",
             Refusal::Page => "page of length 0, or answer slice shorter than two per question",
-            Refusal::WordList => "word list breaks a rule",
+            Refusal::WordList => {
+                "word list breaks a rule: each word closed by 0A, made only of bytes other than 00 that the letter table \
+                 keeps, none empty, none twice"
+            }
             Refusal::Unlisted => "first word of the text not in the list",
             Refusal::Stream => "a codeword of over three bytes, or a stream that ends inside one",
         }
     }
 }
 
-/// A call that was turned down: the row of the table, and the value that is returned with it.
+/// A call that was turned down: the row of the table, and the value that is returned with it, which is 0 save with
+/// [`Refusal::TextRank`] (the first such place) and [`Refusal::Unlisted`] (the word's byte offset).
 #[derive(Clone, Copy, Debug, PartialEq, Eq)]
 pub struct Refused {
     pub refusal: Refusal,
@@ -91,7 +104,7 @@ impl std::error::Error for Refused {}
 impl Answer {
     /// The value of an accepted call, or its refusal.
     pub fn result(self) -> Result<usize, Refused> {
-        match Refusal::from_number(self.refusal) {
+        match Refusal::reported(self.refusal) {
             Some(refusal) => Err(Refused { refusal, value: self.value }),
             None => Ok(self.value),
         }

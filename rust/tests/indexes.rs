@@ -1,9 +1,8 @@
 //! Building an index and checking arrays, against the reference.
 mod support;
-use concordance::ffi::Shape;
-use concordance::Arrays;
+use concordance::{entries, Arrays, Shape};
 use support::random::Random;
-use support::{calls, inputs, reference};
+use support::{inputs, reference};
 
 /// Slices for an index, a little longer than needed or one shorter, filled with a mark.
 fn room(random: &mut Random, shape: Shape, text: &[u32]) -> Arrays {
@@ -36,7 +35,7 @@ fn build() {
         let text = inputs::any_text(&mut random, shape.vocabulary);
         let mut ours = room(&mut random, shape, &text);
         let mut theirs = ours.clone();
-        let answer = calls::build(shape, &text, &mut ours);
+        let answer = entries::build(shape, &text, ours.slices_mut());
         assert_eq!(answer, reference::build(shape, &text, &mut theirs), "{shape:?}, {text:?}");
         assert!(ours == theirs, "{shape:?}, {text:?}");
     }
@@ -53,9 +52,9 @@ fn check() {
         let shape = inputs::shape(&mut random, vocabulary);
         let text = inputs::text(&mut random, vocabulary);
         let mut arrays = reference::index(shape, &text);
-        assert_eq!(calls::check(shape, &arrays), reference::accepted(0), "{shape:?}, {text:?}");
+        assert_eq!(entries::check(shape, arrays.slices()), reference::accepted(0), "{shape:?}, {text:?}");
         inputs::damage(&mut random, shape, &mut arrays);
-        let answer = calls::check(shape, &arrays);
+        let answer = entries::check(shape, arrays.slices());
         assert_eq!(answer, reference::check(shape, &arrays), "{shape:?}, {text:?}, {arrays:?}");
         if answer.refusal == 0 {
             passed += 1;
@@ -74,7 +73,7 @@ fn check_of_any_shape() {
         let good = inputs::shape(&mut random, 130);
         let arrays = reference::index(good, &[0, 128, 0, 129, 128]);
         let shape = if random.once_in(2) { inputs::any_shape(&mut random) } else { good };
-        assert_eq!(calls::check(shape, &arrays), reference::check(shape, &arrays), "{shape:?}");
+        assert_eq!(entries::check(shape, arrays.slices()), reference::check(shape, &arrays), "{shape:?}");
     }
 }
 
@@ -87,7 +86,7 @@ fn small_texts() {
         for number in 0..3usize.pow(length) {
             let text: Vec<u32> = (0..length).map(|place| [0, 128, 129][number / 3usize.pow(place) % 3]).collect();
             let arrays = reference::index(shape, &text);
-            assert_eq!(calls::check(shape, &arrays).refusal, 0);
+            assert_eq!(entries::check(shape, arrays.slices()).refusal, 0);
             assert!(!seen.contains(&arrays), "{text:?}");
             seen.push(arrays);
         }

@@ -1,9 +1,8 @@
 //! Each limit of paper 01, and one past it.
 mod support;
-use concordance::ffi::{Listing, Question, Shape};
-use concordance::{Arrays, Index};
+use concordance::{entries, Arrays, Index, Listing, Question, Refusal, Refused, Shape};
 use support::random::Random;
-use support::{calls, reference};
+use support::reference;
 
 const MAX_WORDS: usize = 16_777_216;
 const MAX_VOCABULARY: usize = 2_113_664;
@@ -14,10 +13,9 @@ fn longest_text() -> Vec<u32> {
     let mut text: Vec<u32> = (0..MAX_WORDS)
         .map(|_| {
             let number = random.next();
-            if number % 8 == 0 {
-                128 + (number >> 8) as u32 % 200
-            } else {
-                (number >> 8) as u32 % 100
+            match number % 8 {
+                0 => 128 + (number >> 8) as u32 % 200,
+                _ => (number >> 8) as u32 % 100,
             }
         })
         .collect();
@@ -68,13 +66,13 @@ fn most_words() {
     assert!(concordance::read_stream(&stream).expect("its stream is one") == text);
     let mut longer = stream;
     longer.push(0x80);
-    assert_eq!(calls::read_stream(&longer, &mut []), reference::refused(2));
+    assert_eq!(entries::read_stream(&longer, &mut []), reference::refused(2));
 
     text.push(0);
     let mut arrays = Arrays::sized(shape, longer.len());
-    assert_eq!(calls::build(shape, &text, &mut arrays), reference::refused(2));
+    assert_eq!(entries::build(shape, &text, arrays.slices_mut()), reference::refused(2));
     assert!(arrays.bytes.iter().all(|&byte| byte == 0));
-    assert_eq!(calls::write_stream(MAX_VOCABULARY, &text, &mut longer), reference::refused(2));
+    assert_eq!(entries::write_stream(MAX_VOCABULARY, &text, &mut longer), reference::refused(2));
 }
 
 /// A root of one byte more than the longest text has is refused, although its nodes agree.
@@ -85,7 +83,7 @@ fn longest_root() {
         let bytes = vec![0x80; words];
         let (superblocks, blocks) = reference::counters(shape, &bytes);
         let arrays = Arrays { lengths: vec![words as u32], bytes, superblocks, blocks };
-        assert_eq!(calls::check(shape, &arrays), reference::refused(refusal), "{words}");
+        assert_eq!(entries::check(shape, arrays.slices()), reference::refused(refusal), "{words}");
     }
 }
 
@@ -101,24 +99,24 @@ fn vocabularies() {
     ] {
         let shape = Shape { vocabulary, block: 256, per_superblock: 8 };
         let mut stream = [0; 8];
-        assert_eq!(calls::write_stream(vocabulary, &text, &mut stream).refusal, refusal, "{vocabulary}");
+        assert_eq!(entries::write_stream(vocabulary, &text, &mut stream).refusal, refusal, "{vocabulary}");
         let mut arrays = Arrays {
             lengths: vec![0; MAX_VOCABULARY / 128 + 1],
             bytes: vec![0; 8],
             superblocks: vec![0; 256],
             blocks: vec![0; 256],
         };
-        assert_eq!(calls::build(shape, &text, &mut arrays).refusal, refusal, "{vocabulary}");
+        assert_eq!(entries::build(shape, &text, arrays.slices_mut()).refusal, refusal, "{vocabulary}");
         if refusal == 0 {
             let index = Index::build(shape, &text).expect("the text is one");
             assert_eq!(index.passage(0, text.len()).unwrap(), text);
         } else {
-            assert_eq!(calls::check(shape, &arrays).refusal, refusal);
-            assert_eq!(calls::ask(shape, &arrays, &[], Question::word_at(0)).refusal, refusal);
-            assert_eq!(calls::answer_sheet(shape, &arrays, &[], &[], &mut []).refusal, refusal);
-            assert_eq!(calls::passage(shape, &arrays, 0, &mut []).refusal, refusal);
+            assert_eq!(entries::check(shape, arrays.slices()).refusal, refusal);
+            assert_eq!(entries::ask(shape, arrays.slices(), &[], Question::word_at(0)).refusal, refusal);
+            assert_eq!(entries::answer_sheet(shape, arrays.slices(), &[], &[], &mut []).refusal, refusal);
+            assert_eq!(entries::passage(shape, arrays.slices(), 0, &mut []).refusal, refusal);
             let state = Listing { next: 3, finished: true };
-            let page = calls::page(state, shape, &arrays, &[], 0, 0, &mut []);
+            let page = entries::list(state, shape, arrays.slices(), &[], 0, 0, &mut []);
             assert_eq!((page.answer.refusal, page.more, page.listing), (refusal, false, state));
         }
     }
@@ -138,6 +136,60 @@ fn superblocks() {
             assert!(*index.arrays() == reference::index(shape, &text), "{shape:?}");
             assert_eq!(index.passage(69_000, 1_000).unwrap(), text[69_000..]);
         }
+    }
+}
+
+/// V, B and b far outside their limits: the arrays are not sized by them, and the engine's refusal comes back.
+#[test]
+fn absurd_shapes() {
+    let most = usize::MAX;
+    for (vocabulary, block, per_superblock, refusal) in [
+        (0, 0, 0, Refusal::Vocabulary),
+        (most, 256, 8, Refusal::Vocabulary),
+        (MAX_VOCABULARY + 1, 1, 1, Refusal::Vocabulary),
+        (most, most, most, Refusal::Vocabulary),
+        (3, 0, most, Refusal::Blocks),
+        (3, most, 0, Refusal::Blocks),
+        (3, 1, most, Refusal::Blocks),
+        (3, most, 1, Refusal::Blocks),
+        (3, most, most, Refusal::Blocks),
+        (3, 1 << 32, 1 << 32, Refusal::Blocks),
+        (3, (1 << 63) + 1, 2, Refusal::Blocks),
+        (3, 1, 65_536, Refusal::Blocks),
+    ] {
+        let shape = Shape { vocabulary, block, per_superblock };
+        let refused = Refused { refusal, value: 0 };
+        assert_eq!(Arrays::sized(shape, 4), Arrays::default(), "{shape:?}");
+        assert_eq!(Arrays::sized(shape, most), Arrays::default(), "{shape:?}");
+        assert_eq!(Index::build(shape, &[2, 0, 1, 0]), Err(refused), "{shape:?}");
+        assert_eq!(Index::from_arrays(shape, Arrays::default()), Err(refused), "{shape:?}");
+    }
+    let smallest_blocks = Shape { vocabulary: 1, block: 1, per_superblock: 1 };
+    assert_eq!(Arrays::sized(smallest_blocks, most), Arrays::default());
+    let refused = Refused { refusal: Refusal::Words, value: 0 };
+    assert_eq!(Index::build(smallest_blocks, &vec![0; MAX_WORDS + 1]), Err(refused));
+}
+
+/// Passages and pages of more elements than any memory has: no slice is made for them.
+#[test]
+fn absurd_lengths() {
+    let text = [2, 0, 1, 0];
+    let index = Index::build(Shape::for_text(3, text.len()), &text).unwrap();
+    let refused = Refused { refusal: Refusal::Place, value: 0 };
+    assert_eq!(index.passage(0, usize::MAX), Err(refused));
+    assert_eq!(index.passage(usize::MAX, usize::MAX), Err(refused));
+    let pages: Vec<_> = index.pages(&[0], usize::MAX).map(|page| page.unwrap().places).collect();
+    assert_eq!(pages, [[1, 3]]);
+}
+
+/// The numbers 1 to 15 have a row of the table, and no other number has.
+#[test]
+fn refusals() {
+    for number in 1..=15 {
+        assert_eq!(Refusal::from_number(number).map(Refusal::number), Some(number));
+    }
+    for number in [0, 16, u32::MAX] {
+        assert_eq!(Refusal::from_number(number), None);
     }
 }
 
@@ -175,19 +227,19 @@ fn word_lists() {
         let asked = [0, words / 2, words.saturating_sub(1)];
         let text = asked.map(|number| format!("W{number},")).concat().into_bytes();
         let mut ranks = [9; 4];
-        let answer = calls::read_text(&list, &text, &mut ranks);
+        let answer = entries::read_text(&list, &text, &mut ranks);
         assert_eq!(answer.refusal, refusal, "{words}");
         if refusal == 0 {
             assert_eq!((answer.value, ranks), (3, [asked[0] as u32, asked[1] as u32, asked[2] as u32, 9]));
             let mut unlisted = text.clone();
             unlisted.extend(format!("w{words} x").into_bytes());
             let mut ranks = [9; 5];
-            let answer = calls::read_text(&list, &unlisted, &mut ranks);
+            let answer = entries::read_text(&list, &unlisted, &mut ranks);
             assert_eq!((answer.refusal, answer.value, ranks), (14, text.len(), [9; 5]));
             let mut twice = list.clone();
             twice.extend_from_slice(b"w0\n");
             let expected = if words == MAX_VOCABULARY { 1 } else { 13 };
-            assert_eq!(calls::read_text(&twice, &text, &mut [9; 4]).refusal, expected);
+            assert_eq!(entries::read_text(&twice, &text, &mut [9; 4]).refusal, expected);
         }
     }
 }
@@ -197,8 +249,8 @@ fn word_lists() {
 fn longest_plain_text() {
     let mut text = b"a ".repeat(MAX_WORDS);
     let mut ranks = vec![9; MAX_WORDS + 1];
-    assert_eq!(calls::read_text(b"b\na\n", &text, &mut ranks), reference::accepted(MAX_WORDS));
+    assert_eq!(entries::read_text(b"b\na\n", &text, &mut ranks), reference::accepted(MAX_WORDS));
     assert!(ranks[..MAX_WORDS].iter().all(|&rank| rank == 1) && ranks[MAX_WORDS] == 9);
     text.extend_from_slice(b"b");
-    assert_eq!(calls::read_text(b"b\na\n", &text, &mut ranks), reference::refused(2));
+    assert_eq!(entries::read_text(b"b\na\n", &text, &mut ranks), reference::refused(2));
 }

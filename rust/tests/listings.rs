@@ -1,9 +1,8 @@
 //! Runs of page calls, refused ones among them, against the reference and against demand 3.
 mod support;
-use concordance::ffi::{Listing, Question, Shape};
-use concordance::Arrays;
+use concordance::{entries, Arrays, Listing, Question, Shape};
 use support::random::Random;
-use support::{calls, inputs, reference};
+use support::{inputs, reference};
 
 /// What a call of a run brings beside the state.
 struct Call {
@@ -15,11 +14,11 @@ struct Call {
 }
 
 /// A page of both, which must be the same; the places written.
-fn page(state: Listing, call: &Call, lines: usize) -> (concordance::ffi::RawPage, Vec<u32>) {
+fn page(state: Listing, call: &Call, lines: usize) -> (entries::RawPage, Vec<u32>) {
     let mut ours = vec![0x7777_7777; lines];
     let mut theirs = ours.clone();
     let Call { shape, arrays, words, start, length } = call;
-    let got = calls::page(state, *shape, arrays, words, *start, *length, &mut ours);
+    let got = entries::list(state, *shape, arrays.slices(), words, *start, *length, &mut ours);
     let expected = reference::page(state, *shape, arrays, words, *start, *length, &mut theirs);
     assert_eq!(got, expected, "{state:?}, {shape:?}, {words:?}, {start}, {length}");
     assert_eq!(ours, theirs, "{state:?}, {shape:?}, {words:?}, {start}, {length}");
@@ -68,7 +67,7 @@ fn run(random: &mut Random) {
     let (good, text) = good(random);
     let phrase = good.words[good.start..].to_vec();
     let all = reference::places(&text, &phrase);
-    let mut state = calls::open();
+    let mut state = entries::open();
     assert_eq!(state, Listing { next: 0, finished: false });
     let mut found: Vec<usize> = Vec::new();
     let mut lines_lent = 0;
@@ -89,11 +88,11 @@ fn run(random: &mut Random) {
         state = got.listing;
     }
     assert_eq!(found, all[..lines_lent.min(all.len())]);
-    let count = calls::ask(good.shape, &good.arrays, &good.words, Question::phrase(good.start, good.length));
+    let count = entries::ask(good.shape, good.arrays.slices(), &good.words, Question::phrase(good.start, good.length));
     assert_eq!(count, reference::accepted(all.len()));
     for place in found {
         let mut passage = vec![0; phrase.len()];
-        assert_eq!(calls::passage(good.shape, &good.arrays, place, &mut passage).refusal, 0);
+        assert_eq!(entries::passage(good.shape, good.arrays.slices(), place, &mut passage).refusal, 0);
         assert_eq!(passage, phrase);
     }
 }

@@ -1,7 +1,8 @@
 //! Reading plain text through a word list, against the reference.
 mod support;
+use concordance::entries;
 use support::random::Random;
-use support::{calls, inputs, reference};
+use support::{inputs, reference};
 
 #[test]
 fn read_text() {
@@ -14,7 +15,7 @@ fn read_text() {
         let room = (words + random.below(3)).saturating_sub(random.one_of(&[0, 0, 0, 0, 1]));
         let mut ours = vec![88; room];
         let mut theirs = ours.clone();
-        let answer = calls::read_text(&list, &text, &mut ours);
+        let answer = entries::read_text(&list, &text, &mut ours);
         assert_eq!(answer, reference::read_text(&list, &text, &mut theirs), "{list:02X?}, {text:02X?}");
         assert_eq!(ours, theirs, "{list:02X?}, {text:02X?}");
         refusals[answer.refusal as usize] += 1;
@@ -35,7 +36,7 @@ fn each_byte() {
         ] {
             let mut ours = [88; 3];
             let mut theirs = [88; 3];
-            let answer = calls::read_text(&list, &text, &mut ours);
+            let answer = entries::read_text(&list, &text, &mut ours);
             assert_eq!(answer, reference::read_text(&list, &text, &mut theirs), "{list:02X?}, {text:02X?}");
             assert_eq!(ours, theirs, "{list:02X?}, {text:02X?}");
         }

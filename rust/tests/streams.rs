@@ -1,7 +1,8 @@
 //! Writing and reading streams, against the reference.
 mod support;
+use concordance::entries;
 use support::random::Random;
-use support::{calls, inputs, reference};
+use support::{inputs, reference};
 
 /// Both calls of one entry leave the same slice and give the same answer.
 #[test]
@@ -14,7 +15,7 @@ fn write_stream() {
         let room = (needed + random.below(4)).saturating_sub(random.one_of(&[0, 0, 0, 1, 2]));
         let mut ours = vec![0xA5; room];
         let mut theirs = ours.clone();
-        let answer = calls::write_stream(vocabulary, &text, &mut ours);
+        let answer = entries::write_stream(vocabulary, &text, &mut ours);
         assert_eq!(answer, reference::write_stream(vocabulary, &text, &mut theirs), "V {vocabulary}, {text:?}");
         assert_eq!(ours, theirs, "V {vocabulary}, {text:?}");
     }
@@ -40,7 +41,7 @@ fn read_stream() {
         let room = (words + random.below(3)).saturating_sub(random.one_of(&[0, 0, 0, 1]));
         let mut ours = vec![77; room];
         let mut theirs = ours.clone();
-        let answer = calls::read_stream(&stream, &mut ours);
+        let answer = entries::read_stream(&stream, &mut ours);
         assert_eq!(answer, reference::read_stream(&stream, &mut theirs), "{stream:02X?}");
         assert_eq!(ours, theirs, "{stream:02X?}");
     }
@@ -66,7 +67,7 @@ fn read_short_streams() {
     for stream in streams {
         let mut ours = [77; 4];
         let mut theirs = [77; 4];
-        let answer = calls::read_stream(&stream, &mut ours);
+        let answer = entries::read_stream(&stream, &mut ours);
         assert_eq!(answer, reference::read_stream(&stream, &mut theirs), "{stream:02X?}");
         assert_eq!(ours, theirs, "{stream:02X?}");
     }

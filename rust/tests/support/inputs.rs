@@ -1,8 +1,7 @@
 //! Random inputs: texts, shapes, arrays that are damaged, questions, plain texts and word lists.
 use super::random::Random;
 use super::reference;
-use concordance::ffi::{Question, Shape};
-use concordance::Arrays;
+use concordance::{Arrays, Question, Shape};
 
 /// Vocabulary sizes at and beside the steps of the code, and between them.
 pub fn vocabulary(random: &mut Random) -> usize {

@@ -1,8 +1,8 @@
 //! The engine as paper 01 describes it, written from the paper alone: plain scans over the text, and
 //! no search structure. Where an index is given, its text is read back from the nodes and all its
 //! arrays are made again from that text.
-use concordance::ffi::{Answer, Listing, Question, RawPage, Shape};
-use concordance::Arrays;
+use concordance::entries::{Answer, RawPage};
+use concordance::{Arrays, Listing, Question, Shape};
 
 pub const MAX_VOCABULARY: usize = 2_113_664;
 pub const MAX_WORDS: usize = 16_777_216;

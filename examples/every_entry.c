@@ -1,0 +1,128 @@
+/* Calls each of the ten entries on a small text, the sample of the scope paper, and shows a refusal of each entry that has one to teach. */
+#include "concordance.h"
+
+#include <stdio.h>
+#include <string.h>
+
+/* The text has 5 words, the largest of rank 129. Its stream has 8 bytes, V 130 makes 2 nodes, and 8 bytes need one row of each counter. */
+enum { VOCABULARY = 130, WORDS = 5, NODES = 2, BYTES = 8, ROW = 256 };
+
+static const uint32_t text[WORDS] = {0, 128, 0, 129, 128};
+static const concordance_shape shape = {VOCABULARY, 256, 8};
+
+/* The index of the text, and how it is lent to a call. */
+static uint32_t lengths[NODES], superblocks[ROW];
+static uint8_t bytes[BYTES];
+static uint16_t blocks[ROW];
+#define INDEX lengths, NODES, bytes, BYTES, superblocks, ROW, blocks, ROW
+
+static void show(const char *call, concordance_answer answer) {
+    if (answer.refusal == CONCORDANCE_ACCEPTED) {
+        printf("%s: %zu\n", call, answer.value);
+    } else {
+        printf("%s: refused %u with %zu\n", call, answer.refusal, answer.value);
+    }
+}
+
+static void show_numbers(const uint32_t *numbers, size_t count) {
+    for (size_t i = 0; i < count; i++) printf(" %u", numbers[i]);
+    printf("\n");
+}
+
+static void show_bytes(const uint8_t *values, size_t count) {
+    for (size_t i = 0; i < count; i++) printf(" %02X", values[i]);
+    printf("\n");
+}
+
+/* Entries 1 and 2: a text as a stream of codewords, and back. */
+static void streams(void) {
+    uint8_t stream[BYTES];
+    show("write_stream", concordance_write_stream(VOCABULARY, text, WORDS, stream, BYTES));
+    show_bytes(stream, BYTES);
+    show("write_stream, V 129", concordance_write_stream(129, text, WORDS, stream, BYTES)); /* rank 129 stands at place 3 */
+
+    uint32_t read[WORDS];
+    show("read_stream", concordance_read_stream(stream, BYTES, read, WORDS));
+    show_numbers(read, WORDS);
+    show("read_stream, room for 4 words", concordance_read_stream(stream, BYTES, read, 4));
+    show("read_stream, without the last byte", concordance_read_stream(stream, BYTES - 1, read, WORDS));
+}
+
+/* Entries 3 and 4: the index of the text, and its check. */
+static void index_of_the_text(void) {
+    show("build", concordance_build(shape, text, WORDS, INDEX));
+    show_numbers(lengths, NODES);
+    show_bytes(bytes, BYTES);
+    const concordance_shape no_blocks = {VOCABULARY, 0, 8};
+    show("build, B 0", concordance_build(no_blocks, text, WORDS, INDEX));
+
+    show("check", concordance_check(shape, INDEX));
+    blocks[0x80]++;
+    show("check, a counter one too high", concordance_check(shape, INDEX));
+    blocks[0x80]--;
+}
+
+/* Entries 5 and 6: one question, and a sheet with a question of each kind. */
+static void questions(void) {
+    const uint32_t words[2] = {0, 128};
+    const concordance_question sheet[6] = {
+        {.kind = 1, .p = 3},                    /* the rank at place 3 */
+        {.kind = 2, .w = 128, .p = 4},          /* how often 128 stands below place 4 */
+        {.kind = 3, .w = 128, .p = 2},          /* the place of the second 128 */
+        {.kind = 4, .w = 0, .v = 129, .d = 1},  /* how often 129 stands right after 0 */
+        {.kind = 5, .start = 0, .length = 2},   /* how often the phrase 0 128 stands */
+        {.kind = 1, .p = 5},                    /* past the end of the text */
+    };
+    show("ask, the second 128", concordance_ask(shape, INDEX, words, 2, sheet[2]));
+    const concordance_question third = {.kind = 3, .w = 128, .p = 3};
+    show("ask, the third 128", concordance_ask(shape, INDEX, words, 2, third));
+
+    uint32_t answers[12];
+    show("answer_sheet", concordance_answer_sheet(shape, INDEX, words, 2, sheet, 6, answers, 12));
+    for (size_t i = 0; i < 6; i++) printf(" kind %u: refusal %u, value %u\n", sheet[i].kind, answers[2 * i], answers[2 * i + 1]);
+    show("answer_sheet, room for 11 numbers", concordance_answer_sheet(shape, INDEX, words, 2, sheet, 6, answers, 11));
+}
+
+/* Entry 7: a part of the text, read back from the index. */
+static void passages(void) {
+    uint32_t passage[3];
+    show("passage from place 2", concordance_passage(shape, INDEX, 2, passage, 3));
+    show_numbers(passage, 3);
+    show("passage from place 3", concordance_passage(shape, INDEX, 3, passage, 3)); /* its last word would lie past the end */
+}
+
+/* Entries 8 and 9: the places of a word, on pages of one line; a refused page hands back the state, and the listing goes on. */
+static void pages(void) {
+    const uint32_t word[1] = {128};
+    uint32_t line[1];
+    concordance_listing listing = concordance_open();
+    printf("open: next %zu, %s\n", listing.next, listing.finished ? "finished" : "not finished");
+
+    concordance_page page = concordance_list(listing, shape, INDEX, word, 1, 0, 1, line, 0);
+    show("list, no line", page.answer);
+    do {
+        page = concordance_list(page.listing, shape, INDEX, word, 1, 0, 1, line, 1);
+        show("list", page.answer);
+        printf(" place %u, next %zu, %s\n", line[0], page.listing.next, page.more ? "more follow" : "the end");
+    } while (page.more);
+}
+
+/* Entry 10: plain text through a word list. */
+static void plain_text(void) {
+    const char *list = "tick\ntock\n", *plain = "Tick, tock! TICK.", *other = "tick, tack";
+    uint32_t ranks[3];
+    show("read_text", concordance_read_text((const uint8_t *)list, strlen(list), (const uint8_t *)plain, strlen(plain), ranks, 3));
+    show_numbers(ranks, 3);
+    show("read_text, an unlisted word", concordance_read_text((const uint8_t *)list, strlen(list), (const uint8_t *)other, strlen(other), ranks, 3));
+    show("read_text, an unclosed list", concordance_read_text((const uint8_t *)list, strlen(list) - 1, (const uint8_t *)plain, strlen(plain), ranks, 3));
+}
+
+int main(void) {
+    streams();
+    index_of_the_text();
+    questions();
+    passages();
+    pages();
+    plain_text();
+    return 0;
+}

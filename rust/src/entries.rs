@@ -1,0 +1,120 @@
+//! The ten entries of the archive, over slices and as they are: nothing is sized, and the answer is the one that the engine gives.
+//!
+//! Each call is safe, since an entry asks nothing of its arguments but what a slice always has: it is not null, aligned, initialized and as
+//! long as it says, and one that is written is lent to nobody else.
+use crate::ffi;
+pub use crate::ffi::{Answer, Listing, Question, RawPage, Shape};
+
+/// The four arrays of an index, lent to be read.
+#[derive(Clone, Copy, Debug)]
+pub struct Slices<'a> {
+    pub lengths: &'a [u32],
+    pub bytes: &'a [u8],
+    pub superblocks: &'a [u32],
+    pub blocks: &'a [u16],
+}
+
+/// Four slices, lent to be filled with the arrays of an index.
+#[derive(Debug)]
+pub struct SlicesMut<'a> {
+    pub lengths: &'a mut [u32],
+    pub bytes: &'a mut [u8],
+    pub superblocks: &'a mut [u32],
+    pub blocks: &'a mut [u16],
+}
+
+/// Calls an entry with the arguments in front of the arrays, the pointer and the length of each array, and the arguments behind them.
+/// The arrays are given with the method that yields the pointers.
+macro_rules! with_arrays {
+    ($entry:ident($($front:expr),+; $arrays:ident.$pointer:ident; $($behind:expr),*)) => {
+        unsafe {
+            ffi::$entry(
+                $($front,)+
+                $arrays.lengths.$pointer(),
+                $arrays.lengths.len(),
+                $arrays.bytes.$pointer(),
+                $arrays.bytes.len(),
+                $arrays.superblocks.$pointer(),
+                $arrays.superblocks.len(),
+                $arrays.blocks.$pointer(),
+                $arrays.blocks.len(),
+                $($behind,)*
+            )
+        }
+    };
+}
+
+/// Writes a text as a stream.
+pub fn write_stream(vocabulary: usize, text: &[u32], stream: &mut [u8]) -> Answer {
+    unsafe { ffi::concordance_write_stream(vocabulary, text.as_ptr(), text.len(), stream.as_mut_ptr(), stream.len()) }
+}
+
+/// Reads a stream.
+pub fn read_stream(stream: &[u8], text: &mut [u32]) -> Answer {
+    unsafe { ffi::concordance_read_stream(stream.as_ptr(), stream.len(), text.as_mut_ptr(), text.len()) }
+}
+
+/// Builds the index of a text.
+pub fn build(shape: Shape, text: &[u32], arrays: SlicesMut) -> Answer {
+    with_arrays!(concordance_build(shape, text.as_ptr(), text.len(); arrays.as_mut_ptr;))
+}
+
+/// Checks an index.
+pub fn check(shape: Shape, arrays: Slices) -> Answer {
+    with_arrays!(concordance_check(shape; arrays.as_ptr;))
+}
+
+/// Asks one question of an index.
+pub fn ask(shape: Shape, arrays: Slices, words: &[u32], question: Question) -> Answer {
+    with_arrays!(concordance_ask(shape; arrays.as_ptr; words.as_ptr(), words.len(), question))
+}
+
+/// Answers a sheet of questions of an index.
+pub fn answer_sheet(
+    shape: Shape,
+    arrays: Slices,
+    words: &[u32],
+    questions: &[Question],
+    answers: &mut [u32],
+) -> Answer {
+    with_arrays!(concordance_answer_sheet(shape; arrays.as_ptr;
+        words.as_ptr(), words.len(), questions.as_ptr(), questions.len(), answers.as_mut_ptr(), answers.len()))
+}
+
+/// Fills a passage with the ranks from a place on.
+pub fn passage(shape: Shape, arrays: Slices, place: usize, passage: &mut [u32]) -> Answer {
+    with_arrays!(concordance_passage(shape; arrays.as_ptr; place, passage.as_mut_ptr(), passage.len()))
+}
+
+/// Opens a listing.
+pub fn open() -> Listing {
+    unsafe { ffi::concordance_open() }
+}
+
+/// Writes the next page of a listing.
+pub fn list(
+    listing: Listing,
+    shape: Shape,
+    arrays: Slices,
+    words: &[u32],
+    start: usize,
+    length: usize,
+    lines: &mut [u32],
+) -> RawPage {
+    with_arrays!(concordance_list(listing, shape; arrays.as_ptr;
+        words.as_ptr(), words.len(), start, length, lines.as_mut_ptr(), lines.len()))
+}
+
+/// Reads plain text through a word list.
+pub fn read_text(list: &[u8], text: &[u8], ranks: &mut [u32]) -> Answer {
+    unsafe {
+        ffi::concordance_read_text(
+            list.as_ptr(),
+            list.len(),
+            text.as_ptr(),
+            text.len(),
+            ranks.as_mut_ptr(),
+            ranks.len(),
+        )
+    }
+}
