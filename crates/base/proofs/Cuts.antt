@@ -3,7 +3,6 @@ use Prim.Native.Nat.{ℕ}
 use mathlib.Core.Path.{_≡_, refl, ap}
 use mathlib.Core.Bool.{Bool, true, false, cond}
 use mathlib.Core.List.{List, [], _∷_, flatten}
-use lib.ListN.{getD}
 use Rattle.base.specs.Lists.{All, consFirst, cutAfter}
 
 module _ (test : ℕ → Bool) where
@@ -34,20 +33,3 @@ module _ (test : ℕ → Bool) where
       go false e [] a = (tt, tt)
       go false e ([] ∷ ps) a = (tt, a .1)
       go false e ((y ∷ ys) ∷ ps) a = ((e, a .0), a .1)
-
-  -- the first piece, which is empty where the list is
-  unfoldable pub firstPiece : List ℕ → List ℕ
-  firstPiece xs = getD (cutAfter test xs) 0 []
-
-  -- it goes on until an element passes
-  pub first-piece-last : (x : ℕ) (xs : List ℕ) → test x ≡ true → firstPiece (x ∷ xs) ≡ x ∷ []
-  unfolding firstPiece
-  first-piece-last x xs e = rw e
-
-  pub first-piece-more : (x : ℕ) (xs : List ℕ) → test x ≡ false → firstPiece (x ∷ xs) ≡ x ∷ firstPiece xs
-  unfolding firstPiece
-  first-piece-more x xs e = rw e (go (cutAfter test xs))
-    where
-      go : (ps : List (List ℕ)) → getD (consFirst x ps) 0 [] ≡ x ∷ getD ps 0 []
-      go [] = refl
-      go (p ∷ ps) = refl

@@ -10,7 +10,7 @@ use lib.Dec.{eqb}
 use lib.ListN.{length, take, drop, getD, length-drop}
 use lib.Seq.{getD-drop}
 use Rattle.base.specs.Lists.{All, Below, allPass, firstWhere, same}
-use Rattle.base.proofs.Tests.{and-left, and-right, and-true, false-of}
+use Rattle.base.proofs.Tests.{and-left, and-right, and-true}
 
 -- ---- all elements
 
@@ -143,9 +143,6 @@ same-true [] (y ∷ ys) e = absurd (false≢true e)
 same-true (x ∷ xs) [] e = absurd (false≢true e)
 same-true (x ∷ xs) (y ∷ ys) e =
     ap₂ {C = List ℕ} (λ (h : ℕ) (t : List ℕ). h ∷ t) (eqb-true x y (and-left (eqb x y) (same xs ys) e)) (same-true xs ys (and-right (eqb x y) (same xs ys) e))
-
-pub same-no : (xs ys : List ℕ) → (xs ≡ ys → ⊥) → same xs ys ≡ false
-same-no xs ys n = false-of (same xs ys) (λ e. n (same-true xs ys e))
 
 pub same-false : (xs ys : List ℕ) → same xs ys ≡ false → xs ≡ ys → ⊥
 same-false xs ys e q = false≢true (sym e ∙ same-yes xs ys q)

@@ -6,7 +6,7 @@ use native.Mathlib.Omega.{arith}
 use lib.ListN.{length, take, drop, getD, length-append, length-drop, take-append-drop, List·getD-map}
 use lib.Seq.{take-append-seam, drop-append-seam, drop-drop, getD-take, getD-drop, length-take-le}
 use Rattle.base.specs.Lists.{All, total, segments}
-use Rattle.base.proofs.Lists.{all-append, all-front, all-back, all-take, all-drop}
+use Rattle.base.proofs.Lists.{all-front, all-back, all-take, all-drop}
 
 -- ---- lists laid end to end
 
@@ -20,13 +20,7 @@ unfolding flatten
 length-flatten [] = refl
 length-flatten (x ∷ xs) = length-append x (flatten xs) ∙ ap (λ (n : ℕ). length x + n) (length-flatten xs)
 
--- what holds of all elements of each list holds of all elements of the lists laid end to end
-pub all-flatten : (P : ℕ → Type 0) (xs : List (List ℕ)) → All (All P) xs → All P (flatten xs)
-unfolding flatten
-all-flatten P [] a = tt
-all-flatten P (x ∷ xs) a = all-append P x (flatten xs) (a .0) (all-flatten P xs (a .1))
-
--- and the other way round
+-- what holds of all elements of the lists laid end to end holds of all elements of each
 pub flatten-all : (P : ℕ → Type 0) (xs : List (List ℕ)) → All P (flatten xs) → All (All P) xs
 unfolding flatten
 flatten-all P [] a = tt

@@ -114,7 +114,7 @@ pub extern "C" fn concordance_answer_sheet(
 ) -> Answer
     ensures { λ r. ⌜ (r ≡ sheetAnswer 128 shape (arrays (now (lengths .entry)) (now (bytes .entry)) (now (superblocks .entry)) (now (blocks .entry))) (length (now (questions .entry))) (length (now (answers .entry)))) × (now (answers .exit) ≡ sheetExit 128 shape (arrays (now (lengths .entry)) (now (bytes .entry)) (now (superblocks .entry)) (now (blocks .entry))) (now (words .entry)) (now (questions .entry)) (now (answers .entry))) ⌝ }
 {
-    let mut starts = [0u32; 65282];
+    let mut starts = [0u32; index::MAX_STARTS];
     let answer = sheets::prepare(
         dense::CLOSING,
         shape,

@@ -1,12 +1,12 @@
 // What a sheet of questions is answered by: its tests, and one question at a time. No function here
 // is an entry.
 ghost use mathlib.Core.Path.{_≡_};
-ghost use Prim.Native.Nat.{_+_, _*_, _<_};
+ghost use Prim.Native.Nat.{_+_, _*_, _<_, _≤_};
 ghost use lib.ListN.{length};
 ghost use Rattle.base.specs.Answers.{written};
 ghost use Rattle.dense.specs.Code.{Closing};
 ghost use Rattle.index.specs.Arrays.{arrays, textIn};
-ghost use Rattle.index.specs.Starts.{NodeStarts};
+ghost use Rattle.index.specs.Starts.{maxStarts, NodeStarts};
 ghost use Rattle.words.specs.Ready.{Ready};
 ghost use Rattle.questions.specs.Answering.{questionAnswer};
 ghost use Rattle.concordance.specs.Sheets.{pairOf, sheetAnswer};
@@ -28,7 +28,7 @@ pub fn prepare(
     room: usize,
     starts: &mut [u32],
 ) -> Answer
-    requires { ⌜ Closing s × (65281 < length (now starts)) ⌝ }
+    requires { ⌜ Closing s × (maxStarts ≤ length (now starts)) ⌝ }
     ensures { λ r. ⌜ (r ≡ sheetAnswer s shape (arrays (now (lengths .entry)) (now (bytes .entry)) (now (superblocks .entry)) (now (blocks .entry))) asked room) × (r .refusal ≡ 0 → NodeStarts (now (lengths .entry)) (now (starts .exit))) ⌝ }
 {
     let checked = index::check_of(s, shape, lengths, bytes, superblocks, blocks);

@@ -1,6 +1,6 @@
 -- Laws of the code: codewords are well formed, and the rank and its codeword give each other back. Assumes nothing.
 use Prim.Native.Nat.{ℕ, _+_, _-_, _*_, _/_, _%_, _≤_, _<_}
-use mathlib.Core.Path.{_≡_, refl, sym, ap, _∙_}
+use mathlib.Core.Path.{_≡_, refl, ap, _∙_}
 use mathlib.Core.Bool.{Bool, true, false, cond}
 use mathlib.Core.Logic.{_⊎_, inl, inr}
 use mathlib.Core.List.{List, [], _∷_}
@@ -107,10 +107,6 @@ module _ (s : ℕ) (within : Closing s) where
           (ap (λ (r : ℕ). s + s * continuing s + (s * (continuing s * (x / s / continuing s) + x / s % continuing s) + r)) (last x)
           ∙ ap (λ (r : ℕ). s + s * continuing s + (s * r + x % s)) (div-add-mod (x / s) (continuing s))
           ∙ ap (λ (r : ℕ). s + s * continuing s + r) (div-add-mod x s))
-
-  -- two ranks never share a codeword
-  pub code-injective : (i j : ℕ) → i < maxVocabulary s → j < maxVocabulary s → code s i ≡ code s j → i ≡ j
-  code-injective i j h l q = sym (rank-of-code i h) ∙ ap (rankOf s) q ∙ rank-of-code j l
 
   -- a well formed codeword of at most three bytes is the codeword of the rank that it names
   pub code-of-rank : (w : List ℕ) → Word s w → length w ≤ 3 → (rankOf s w < maxVocabulary s) × (code s (rankOf s w) ≡ w)

@@ -49,18 +49,6 @@ small s l h =
     let u : s * ((256 - s) * (256 - s)) ≤ 255 * (255 * 255) = mul-le-mul h q in
     record { others = o; two = t; square = q; three = u; all = omega arith }
 
--- a product of two bytes
-pub byte-product : (a b : ℕ) → a ≤ 255 → b ≤ 255 → a * b ≤ 65025
-byte-product a b h l = mul-le-mul h l
-
--- a byte times two digits in one
-pub byte-product-digits : (a c x y : ℕ) → a ≤ 255 → c ≤ 255 → x ≤ 255 → y ≤ 255 → a * (c * x + y) ≤ 16646400
-byte-product-digits a c x y h l m n =
-    let p : c * x ≤ 255 * 255 = mul-le-mul l m in
-    let q : c * x + y ≤ 65280 = omega arith in
-    let r : a * (c * x + y) ≤ 255 * 65280 = mul-le-mul h q in
-    omega arith
-
 -- a node that two continuing bytes lead to at most, times the number of closing or of continuing values
 pub node-products : (s node : ℕ) → 1 ≤ s → s ≤ 255 → node ≤ (256 - s) * (256 - s) + (256 - s) → (s * node ≤ 16646400) × ((256 - s) * node ≤ 16646400)
 node-products s node l h m =

@@ -1,36 +1,18 @@
--- A whole codeword as it is handed on, by its length. Assumes nothing.
-use Prim.Native.Nat.{ℕ, suc, _+_, _*_, _-_, _≤_}
+-- A codeword as it is handed on, by its length. Assumes nothing.
+use Prim.Native.Nat.{ℕ, suc, _+_, _≤_}
 use mathlib.Core.Path.{_≡_, sym, ap, _∙_}
-use mathlib.Core.Bool.{true, false≢true}
 use mathlib.Core.List.{List, [], _∷_}
 use native.Mathlib.Numerals.{add-one}
 use native.Mathlib.Omega.{arith}
-use borrow.Author.Tests.{leb-true}
 use lib.ListN.{length, set, length-take}
 use lib.Seq.{sets}
 use Rattle.base.specs.Answers.{written}
 use Rattle.base.proofs.Fronts.{written-sets}
 use Rattle.dense.specs.declared.Codeword.{Codeword}
-use Rattle.dense.specs.Code.{continuing, firstOfTwo, firstOfThree, code, rankOf}
-use Rattle.dense.specs.Streams.{isWhole}
+use Rattle.dense.specs.Code.{code}
 use Rattle.dense.specs.Laws.{codeLength}
 use Rattle.dense.specs.Words.{bytesOf}
 use Rattle.dense.proofs.Codewords.{code-length, code-short}
-
-module _ (s : ℕ) (w : Codeword) (whole : isWhole s (bytesOf w) ≡ true) where
-  -- its last byte closes it, and its rank is the first rank of its length and the number that its digits write
-  pub whole-one : w .length ≡ 1 → (continuing s ≤ w .first) × (w .first - continuing s ≡ rankOf s (bytesOf w))
-  whole-one e = (leb-true (continuing s) (w .first) (rw e at whole), rw e)
-
-  pub whole-two : w .length ≡ 2 → (continuing s ≤ w .second) × (firstOfTwo s + (s * w .first + (w .second - continuing s)) ≡ rankOf s (bytesOf w))
-  whole-two e = (leb-true (continuing s) (w .second) (rw e at whole), rw e)
-
-  pub whole-three : w .length ≡ 3 → (continuing s ≤ w .third) × (firstOfThree s + (s * (continuing s * w .first + w .second) + (w .third - continuing s)) ≡ rankOf s (bytesOf w))
-  whole-three e = (leb-true (continuing s) (w .third) (rw e at whole), rw e)
-
-  -- it is not empty
-  pub whole-some : w .length ≡ 0 → ⊥
-  whole-some e = false≢true (rw e at whole)
 
 -- the bytes of a codeword, by its length
 pub bytes-one : (w : Codeword) → w .length ≡ 1 → bytesOf w ≡ w .first ∷ []

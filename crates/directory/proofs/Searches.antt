@@ -30,17 +30,17 @@ last-left {end = end} {low = low} {high = high} l h =
     let e : suc low ≡ high = omega arith in
     record { from = l .from; inside = omega arith; most = l .most; more = λ (k : suc low < end). rw e (l .more (omega arith)) }
 
--- the last row before end is the last of all rows, where row end has more than j or is none
-pub last-of-all : {table : List ℕ} {x j first end r : ℕ} (rows : ℕ) → LastRow table x j first end r → end ≤ rows → (end < rows → j < getD table (end * 256 + x) 0)
-    → LastRow table x j 0 rows r
-last-of-all {table} {x} {j} {first} {end} {r} rows f to past = record {
-  from = omega arith;
+-- the last row of some is the last of more, where the row behind those has more than j or is none
+pub last-of-more : {table : List ℕ} {x j first end r : ℕ} (low high : ℕ) → LastRow table x j first end r → low ≤ first → end ≤ high
+    → (end < high → j < getD table (end * 256 + x) 0) → LastRow table x j low high r
+last-of-more {table} {x} {j} {first} {end} {r} low high f from to past = record {
+  from = omega (arith, f .from);
   inside = omega (arith, f .inside);
   most = f .most;
   more = λ h. go h (below-or-not (suc r) end);
 }
   where
-    go : suc r < rows → (suc r < end) ⊎ (end ≤ suc r) → j < getD table (suc r * 256 + x) 0
+    go : suc r < high → (suc r < end) ⊎ (end ≤ suc r) → j < getD table (suc r * 256 + x) 0
     go h (inl k) = f .more k
     go h (inr g) =
         let e : suc r ≡ end = omega (arith, f .inside) in

@@ -163,14 +163,29 @@ fn superblock_near(superblocks: &[u32], byte: u8, j: usize, near: usize) -> usiz
     search_superblocks(superblocks, byte, j, near, end)
 }
 
-// The last block row from first to before end with at most j of a byte.
+// The last block row from first to before end with at most j of a byte, row by row.
+fn walk_blocks(blocks: &[u16], byte: u8, j: usize, first: usize, end: usize) -> usize
+    requires { ⌜ (first < end) × (end * 256 ≤ length (now blocks)) × (getD (now blocks) (first * 256 + byte) 0 ≤ j) ⌝ }
+    ensures { λ r. ⌜ LastRow (now (blocks .entry)) byte j first end r ⌝ }
+{
+    let mut row = first;
+    while 1 < end - row {
+        if j < block_at(blocks, row + 1, byte) {
+            return row;
+        }
+        row += 1;
+    }
+    row
+}
+
+// The same by halves, until 8 rows are left.
 fn search_blocks(blocks: &[u16], byte: u8, j: usize, first: usize, end: usize) -> usize
     requires { ⌜ (first < end) × (end * 256 ≤ length (now blocks)) × (getD (now blocks) (first * 256 + byte) 0 ≤ j) ⌝ }
     ensures { λ r. ⌜ LastRow (now (blocks .entry)) byte j first end r ⌝ }
 {
     let mut low = first;
     let mut high = end;
-    while 1 < high - low {
+    while 8 < high - low {
         let middle = low + (high - low) / 2;
         if block_at(blocks, middle, byte) <= j {
             low = middle;
@@ -178,7 +193,7 @@ fn search_blocks(blocks: &[u16], byte: u8, j: usize, first: usize, end: usize) -
             high = middle;
         }
     }
-    low
+    walk_blocks(blocks, byte, j, low, high)
 }
 
 // How often a byte stands in the first i bytes: two numbers of the directory, and a count in less

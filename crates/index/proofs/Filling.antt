@@ -24,8 +24,8 @@ use Rattle.tree.specs.Walks.{endNode}
 use Rattle.tree.proofs.Numbers.{end-below, code-ends, levels-most}
 use Rattle.tree.proofs.Nodes.{nodeBytes-append, nodeBytes-nil}
 use Rattle.tree.proofs.Visits.{leaves, node-of-next}
-use Rattle.index.specs.Filling.{firstNodes, nodeLengths, InNodes, Counted, Parted, Stands}
-use Rattle.index.specs.Starts.{NodeStarts}
+use Rattle.index.specs.Filling.{firstNodes, nodeLengths, InNodes, LengthsCounted, Parted, Stands}
+use Rattle.index.specs.Starts.{maxStarts, NodeStarts}
 
 -- ---- the way of a codeword
 
@@ -167,7 +167,7 @@ module _ (s n : ℕ) (t : List ℕ) where
 
 -- lengths that are those of the nodes are as many, and fit the table of starts
 pub lengths-fit : (s : ℕ) (t ls before : List ℕ) → InNodes s (length before) t → ls ≡ nodeLengths s (length before) t
-    → (length ls ≡ length before) × (length ls < 65282) × (total ls ≤ maxBytes)
+    → (length ls ≡ length before) × (length ls < maxStarts) × (total ls ≤ maxBytes)
 lengths-fit s t ls before fits e =
     let n : length ls ≡ length before = ap length e ∙ lengths-number s (length before) t in
     (n, omega (arith, fits .number, levels-most s (fits .closing)), omega (arith, ap total e, fits .most))
@@ -180,13 +180,13 @@ parted s t ls before starts bytes e begin whole =
     record { begin = rw (n, ← e) begin; whole = rw n whole }
 
 -- no text has no bytes in any node
-pub counted-none : (s : ℕ) (t : List ℕ) (n : ℕ) → Counted (λ k. nodeBytes s k (take 0 t)) (replicate n 0)
+pub counted-none : (s : ℕ) (t : List ℕ) (n : ℕ) → LengthsCounted (λ k. nodeBytes s k (take 0 t)) (replicate n 0)
 counted-none s t n = record {
   counted = λ k h. getD-replicate {A = ℕ} n k 0 0 (omega (arith, length-replicate {A = ℕ} n 0)) ∙ sym (ap length (nodeBytes-nil s k));
 }
 
 -- one byte more adds 1 to the length of its node
-pub counted-more : (f : ℕ → List ℕ) (ls : List ℕ) (j b : ℕ) → j < length ls → Counted f ls → Counted (with f j b) (set ls j (getD ls j 0 + 1))
+pub counted-more : (f : ℕ → List ℕ) (ls : List ℕ) (j b : ℕ) → j < length ls → LengthsCounted f ls → LengthsCounted (with f j b) (set ls j (getD ls j 0 + 1))
 counted-more f ls j b h c = record { counted = λ k l. go k (omega (arith, length-set ls j (getD ls j 0 + 1))) (same-or-not j k) }
   where
     go : (k : ℕ) → k < length ls → (j ≡ k) ⊎ (j ≡ k → ⊥) → getD (set ls j (getD ls j 0 + 1)) k 0 ≡ length (with f j b k)
@@ -196,11 +196,11 @@ counted-more f ls j b h c = record { counted = λ k l. go k (omega (arith, lengt
     go k l (inr n) = getD-set-other ls j k (getD ls j 0 + 1) 0 (λ q. n (sym q)) ∙ c .counted k l ∙ ap length (sym (with-other f j b k n))
 
 -- bytes that are the same in each node are counted alike
-pub counted-same : (f g : ℕ → List ℕ) (ls : List ℕ) → ((k : ℕ) → f k ≡ g k) → Counted f ls → Counted g ls
+pub counted-same : (f g : ℕ → List ℕ) (ls : List ℕ) → ((k : ℕ) → f k ≡ g k) → LengthsCounted f ls → LengthsCounted g ls
 counted-same f g ls e c = record { counted = λ k h. c .counted k h ∙ ap length (e k) }
 
 -- lengths that are counted are those of the nodes
-pub counted-lengths : (s : ℕ) (t ls : List ℕ) → Counted (λ k. nodeBytes s k t) ls → ls ≡ nodeLengths s (length ls) t
+pub counted-lengths : (s : ℕ) (t ls : List ℕ) → LengthsCounted (λ k. nodeBytes s k t) ls → ls ≡ nodeLengths s (length ls) t
 unfolding nodeLengths
 counted-lengths s t ls c = map-range-is 0 ls (λ (k : ℕ). length (nodeBytes s k t)) (length ls) refl (c .counted)
 
@@ -300,7 +300,7 @@ module _ (s : ℕ) (t : List ℕ) (p i : ℕ) (more : i < length (word s t p)) (
   node-next b q = ap₂ (child s) here q ∙ sym (after-more s 0 (word s t p) i more)
 
   -- it is counted in its node
-  pub counted-next : (ls : List ℕ) → node < length ls → Counted (held s t p i) ls → Counted (held s t p (i + 1)) (set ls node (getD ls node 0 + 1))
+  pub counted-next : (ls : List ℕ) → node < length ls → LengthsCounted (held s t p i) ls → LengthsCounted (held s t p (i + 1)) (set ls node (getD ls node 0 + 1))
   counted-next ls h c = counted-same _ _ _ (λ k. sym (held-next k)) (counted-more (held s t p i) ls node (getD (word s t p) i 0) h c)
 
   module _ (n : ℕ) (fits : InNodes s n t) (inText : p < length t) where
@@ -319,10 +319,10 @@ module _ (s : ℕ) (t : List ℕ) (p i : ℕ) (more : i < length (word s t p)) (
         )
 
     -- so that the length of the node so far is below the most bytes
-    pub next-most : (ls : List ℕ) → length ls ≡ n → Counted (held s t p i) ls → getD ls node 0 < maxBytes
+    pub next-most : (ls : List ℕ) → length ls ≡ n → LengthsCounted (held s t p i) ls → getD ls node 0 < maxBytes
     next-most ls e c = omega (arith, c .counted node (omega (arith, next-inside)), room-next, length-most s n t fits node next-inside)
 
-    module _ (starts ls bytes : List ℕ) (begin : NodeStarts (nodeLengths s n t) starts) (whole : total (nodeLengths s n t) ≡ length bytes) (number : length ls ≡ n) (c : Counted (held s t p i) ls) where
+    module _ (starts ls bytes : List ℕ) (begin : NodeStarts (nodeLengths s n t) starts) (whole : total (nodeLengths s n t) ≡ length bytes) (number : length ls ≡ n) (c : LengthsCounted (held s t p i) ls) where
       -- the length of its node so far
       length-next : getD ls node 0 ≡ length (held s t p i node)
       length-next = c .counted node (omega (arith, next-inside))

@@ -4,7 +4,7 @@ use mathlib.Core.Path.{_≡_}
 use mathlib.Core.Bool.{Bool, false, _||_}
 use mathlib.Core.List.{List, map}
 use lib.Dec.{ltb}
-use lib.ListN.{length, take, getD}
+use lib.ListN.{length, getD}
 use Rattle.base.specs.Lists.{All, Below, rangeFrom, total}
 use Rattle.base.specs.Answers.{front}
 use Rattle.dense.specs.Code.{Closing, maxVocabulary}
@@ -51,7 +51,7 @@ pub record InNodes (s n : ℕ) (t : List ℕ) : Type 0 where
   pub most : total (nodeLengths s n t) ≤ maxBytes
 
 -- each length is that of the bytes f of its node
-pub record Counted (f : ℕ → List ℕ) (lengths : List ℕ) : Type 0 where
+pub record LengthsCounted (f : ℕ → List ℕ) (lengths : List ℕ) : Type 0 where
   pub counted : (k : ℕ) → k < length lengths → getD lengths k 0 ≡ length (f k)
 
 -- the bytes are parted among the first n nodes of a text: for each node as many as it has, from its start on

@@ -11,11 +11,11 @@ ghost use Rattle.directory.specs.Counters.{maxBytes};
 ghost use Rattle.tree.specs.Nodes.{nodeBytes};
 ghost use Rattle.index.specs.Arrays.{arrays, indexOf};
 ghost use Rattle.index.specs.Exact.{WithinLimits};
-ghost use Rattle.index.specs.Filling.{tooShort, Buildable, fronts, firstNodes, nodeLengths, InNodes, Counted, Parted, Stands};
+ghost use Rattle.index.specs.Filling.{tooShort, Buildable, fronts, firstNodes, nodeLengths, InNodes, LengthsCounted, Parted, Stands};
 use crate::Shape;
 
 // Whether one of the slices is too short for an index of so many bytes.
-pub fn is_shorter(
+pub fn too_short(
     s: usize,
     shape: Shape,
     needed: usize,
@@ -49,8 +49,8 @@ fn clear(lengths: &mut [u32])
 
 // Adds 1 to the length of each node in which the word at a place has a byte.
 fn count_word(s: usize, text: &[u32], place: usize, lengths: &mut [u32])
-    requires { ⌜ InNodes s (length (now lengths)) (now text) × (place < length (now text)) × Counted (λ k. nodeBytes s k (take place (now text))) (now lengths) ⌝ }
-    ensures { λ _. ⌜ Counted (λ k. nodeBytes s k (take (place + 1) (now (text .entry)))) (now (lengths .exit)) ⌝ }
+    requires { ⌜ InNodes s (length (now lengths)) (now text) × (place < length (now text)) × LengthsCounted (λ k. nodeBytes s k (take place (now text))) (now lengths) ⌝ }
+    ensures { λ _. ⌜ LengthsCounted (λ k. nodeBytes s k (take (place + 1) (now (text .entry)))) (now (lengths .exit)) ⌝ }
 {
     let word = dense::encode(s, text[place] as usize);
     let code = [word.first, word.second, word.third];
@@ -108,9 +108,9 @@ fn write_word(
     bytes: &mut [u8],
 )
     requires { ⌜ InNodes s (length (now lengths)) (now text) × Parted s (length (now lengths)) (now text) (now starts) (now bytes) × (place < length (now text)) ⌝ }
-    requires { ⌜ Counted (λ k. nodeBytes s k (take place (now text))) (now lengths)
+    requires { ⌜ LengthsCounted (λ k. nodeBytes s k (take place (now text))) (now lengths)
         × Stands (λ k. nodeBytes s k (take place (now text))) (length (now lengths)) (now starts) (now bytes) ⌝ }
-    ensures { λ _. ⌜ Counted (λ k. nodeBytes s k (take (place + 1) (now (text .entry)))) (now (lengths .exit))
+    ensures { λ _. ⌜ LengthsCounted (λ k. nodeBytes s k (take (place + 1) (now (text .entry)))) (now (lengths .exit))
         × Stands (λ k. nodeBytes s k (take (place + 1) (now (text .entry)))) (length (now (lengths .exit))) (now (starts .entry)) (now (bytes .exit)) ⌝ }
 {
     let word = dense::encode(s, text[place] as usize);
@@ -145,7 +145,7 @@ fn write_nodes(s: usize, text: &[u32], lengths: &mut [u32], bytes: &mut [u8])
     ensures { λ _. ⌜ (now (lengths .exit) ≡ nodeLengths s (length (now (lengths .entry))) (now (text .entry)))
         × (now (bytes .exit) ≡ flatten (firstNodes s (length (now (lengths .entry))) (now (text .entry)))) ⌝ }
 {
-    let mut starts = [0u32; 65282];
+    let mut starts = [0u32; crate::MAX_STARTS];
     count_nodes(s, text, lengths);
     crate::node_starts(lengths, &mut starts);
     write_words(s, text, &starts, lengths, bytes);

@@ -2,14 +2,15 @@
 ghost use mathlib.Core.Path.{_≡_};
 ghost use mathlib.Core.Bool.{true};
 ghost use Prim.Native.Nat.{_-_, _≤_, _<_};
-ghost use lib.ListN.{length, getD, take, drop};
+ghost use lib.ListN.{length, take, drop};
 ghost use Rattle.base.specs.Lists.{total};
-ghost use Rattle.dense.specs.Code.{Closing, maxVocabulary};
+ghost use Rattle.dense.specs.Code.{Closing};
 ghost use Rattle.directory.specs.Counters.{row, maxBytes, Sizes, Directory};
 ghost use Rattle.tree.specs.Nodes.{maxNodes};
 ghost use Rattle.index.specs.Arrays.{arrays, passes as arraysPass};
 ghost use Rattle.index.specs.Entries.{limitsRefusal};
 ghost use Rattle.index.specs.Exact.{WithinLimits};
+ghost use Rattle.index.specs.Starts.{maxStarts};
 ghost use Rattle.index.specs.Tests.{valueTest, nodePasses, nodesPass};
 use crate::Shape;
 use base::refusal;
@@ -42,7 +43,7 @@ pub fn limits(s: usize, shape: Shape) -> u32
 
 // The sum of the node lengths.
 fn total_length(lengths: &[u32]) -> usize
-    requires { ⌜ length (now lengths) ≤ 65281 ⌝ }
+    requires { ⌜ length (now lengths) < maxStarts ⌝ }
     ensures { λ r. ⌜ r ≡ total (now (lengths .entry)) ⌝ }
 {
     let mut sum: usize = 0;

@@ -18,6 +18,10 @@ ghost use Rattle.index.specs.Entries.{buildAnswer, buildExit, checkAnswe
 use base::Answer;
 use base::refusal;
 
+// The most elements of a table of node starts: one for each of 65,281 nodes, the most that an index
+// has at any number of closing values, and one for the end of the last.
+pub const MAX_STARTS: usize = 65282;
+
 // The size of the vocabulary V, the block length B and the number b of blocks of a superblock.
 #[repr(C)]
 pub struct Shape {
@@ -56,7 +60,7 @@ pub fn build_of(
         return Answer::refused_at(refusal::TEXT_RANK, place);
     }
     let needed = dense::stream_length(s, text);
-    if building::is_shorter(s, shape, needed, lengths, bytes, superblocks, blocks) {
+    if building::too_short(s, shape, needed, lengths, bytes, superblocks, blocks) {
         return Answer::refused(refusal::SHORT_SLICE);
     }
     building::write_index(s, shape, text, needed, lengths, bytes, superblocks, blocks);

@@ -120,7 +120,7 @@ pub fn page_of(
             listing: state,
         };
     }
-    let mut starts = [0u32; 65282];
+    let mut starts = [0u32; index::MAX_STARTS];
     index::node_starts(lengths, &mut starts);
     let end = start + count;
     let written = searches::write_page(

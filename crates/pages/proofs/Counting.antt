@@ -1,12 +1,11 @@
 -- A loop along candidates that counts hits: its start, a turn of it, and its end. Assumes nothing.
 use Prim.Native.Nat.{ℕ, zero, suc, _+_, _-_, _≤_}
-use mathlib.Core.Path.{_≡_, sym, ap, _∙_}
+use mathlib.Core.Path.{_≡_, ap, _∙_}
 use mathlib.Core.Bool.{Bool, true, false, cond}
 use mathlib.Core.List.{List, [], _∷_, append-nil}
 use native.Mathlib.Nat.{sub-self}
 use native.Mathlib.Omega.{arith}
 use lib.ListN.{length, length-append}
-use Rattle.pages.specs.Hits.{allHits}
 use Rattle.pages.proofs.Along.{along, along-more}
 
 module _ (P : ℕ → Bool) (candidate : ℕ → ℕ) where
@@ -39,7 +38,3 @@ module _ (P : ℕ → Bool) (candidate : ℕ → ℕ) where
     -- there are no more candidates
     pub count-over : (stop : ℕ) → j ≡ stop → n ≡ length (along P candidate first (stop - first))
     count-over stop l = c ∙ ap (λ (k : ℕ). length (along P candidate first (k - first))) l
-
-    -- and those from `first` to below `stop` have all hits
-    pub count-all : (stop end : ℕ) → allHits P end ≡ along P candidate first (stop - first) → j ≡ stop → n ≡ length (allHits P end)
-    count-all stop end serve l = count-over stop l ∙ sym (ap length serve)

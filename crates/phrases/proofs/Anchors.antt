@@ -52,10 +52,6 @@ module _ (t : List ℕ) (w i : ℕ) where
       by (inr g) =
           absurd (omega (arith, count-take-rises w (next + i) (nth w j t) t g, nth-found w j t (omega (arith, first-most next)) .before))
 
-  -- candidates are ascending
-  pub candidate-ascends : (next j k : ℕ) → firstCandidate t w i next ≤ j → j < k → k < countOf w t → candidate t w i j < candidate t w i k
-  candidate-ascends next j k h l m = omega (arith, nth-ascends w j k t l m, candidate-after next j h (omega arith))
-
   -- a place with w i further is the next candidate; past any other the next candidate stays
   step-hit : (q : ℕ) → q + i < length t → getD t (q + i) 0 ≡ w → firstCandidate t w i (suc q) ≡ suc (firstCandidate t w i q)
   step-hit q h e =

@@ -1,6 +1,5 @@
 // What the programs print of answers, bytes, ranks and cases, to standard output.
 use base::Answer;
-use formatting::digit;
 use libc::STDOUT_FILENO;
 
 // Writes fixed words.
@@ -17,19 +16,19 @@ pub fn number(n: usize) {
 pub fn bytes(s: &[u8]) {
     let mut i = 0;
     while i < s.len() {
-        let b = s[i] as usize;
-        let text = [32u8, digit(b / 16), digit(b % 16)];
+        let mut text = [0u8; 3];
+        formatting::write_byte(s[i], &mut text, 0);
         io::write_all(STDOUT_FILENO, &text);
         i += 1;
     }
 }
 
 // Writes each rank as a blank and the number in decimal.
-pub fn ranks(s: &[u32]) {
+pub fn ranks(list: &[u32]) {
     let mut i = 0;
-    while i < s.len() {
+    while i < list.len() {
         io::write_all(STDOUT_FILENO, b" ");
-        number(s[i] as usize);
+        number(list[i] as usize);
         i += 1;
     }
 }

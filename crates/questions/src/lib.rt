@@ -128,7 +128,7 @@ pub fn ask_of(
     if checked.refusal != 0 {
         return checked;
     }
-    let mut starts = [0u32; 65282];
+    let mut starts = [0u32; index::MAX_STARTS];
     index::node_starts(lengths, &mut starts);
     answering::answer(
         s,
@@ -193,7 +193,7 @@ pub fn passage_of(
     if n - place < ranks.len() {
         return Answer::refused(refusal::PLACE);
     }
-    let mut starts = [0u32; 65282];
+    let mut starts = [0u32; index::MAX_STARTS];
     index::node_starts(lengths, &mut starts);
     searches::read_passage(
         s,

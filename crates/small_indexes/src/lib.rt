@@ -1,5 +1,11 @@
 // Indexes of small texts, held by value, for the programs that try the entries: each is built once
 // and is then checked, asked and listed, whole or damaged.
+ghost use mathlib.Core.Path.{_≡_};
+ghost use Rattle.index.specs.Entries.{checkAnswer};
+ghost use Rattle.questions.specs.Answering.{askAnswer};
+ghost use Rattle.questions.specs.Passages.{passageAnswer, passageExit};
+ghost use Rattle.listing.specs.Paging.{callOf, pageOf};
+ghost use Rattle.small_indexes.specs.Lent.{lent, shapeOf, sizesOf, lentArrays, builtIndex, reshaped, resized};
 use base::Answer;
 use index::Shape;
 use listing::Listing;
@@ -28,7 +34,9 @@ pub struct SmallIndex {
 }
 
 // The parameters V, B and b of an index.
-pub fn shape_of(vocabulary: usize, block: usize, per_superblock: usize) -> Shape {
+pub fn shape_of(vocabulary: usize, block: usize, per_superblock: usize) -> Shape
+    ensures { λ r. ⌜ r ≡ shapeOf vocabulary block «per_superblock» ⌝ }
+{
     Shape {
         vocabulary,
         block,
@@ -37,7 +45,9 @@ pub fn shape_of(vocabulary: usize, block: usize, per_superblock: usize) -> Shape
 }
 
 // The sizes of an index.
-pub fn sizes_of(nodes: usize, bytes: usize, superblocks: usize, blocks: usize) -> Sizes {
+pub fn sizes_of(nodes: usize, bytes: usize, superblocks: usize, blocks: usize) -> Sizes
+    ensures { λ r. ⌜ r ≡ sizesOf nodes bytes superblocks blocks ⌝ }
+{
     Sizes {
         nodes,
         bytes,
@@ -47,21 +57,27 @@ pub fn sizes_of(nodes: usize, bytes: usize, superblocks: usize, blocks: usize) -
 }
 
 // The first n elements of a slice, or all where it has fewer.
-fn front(s: &[u32], n: usize) -> &[u32] {
-    let count = base::least(n, s.len());
-    &s[..count]
+fn front(numbers: &[u32], n: usize) -> &[u32]
+    ensures { λ r. ⌜ now r ≡ lent n (now (numbers .entry)) ⌝ }
+{
+    let count = base::least(n, numbers.len());
+    &numbers[..count]
 }
 
 // The same of bytes.
-fn front_bytes(s: &[u8], n: usize) -> &[u8] {
-    let count = base::least(n, s.len());
-    &s[..count]
+fn front_bytes(bytes: &[u8], n: usize) -> &[u8]
+    ensures { λ r. ⌜ now r ≡ lent n (now (bytes .entry)) ⌝ }
+{
+    let count = base::least(n, bytes.len());
+    &bytes[..count]
 }
 
 // The same of block counters.
-fn front_blocks(s: &[u16], n: usize) -> &[u16] {
-    let count = base::least(n, s.len());
-    &s[..count]
+fn front_blocks(counters: &[u16], n: usize) -> &[u16]
+    ensures { λ r. ⌜ now r ≡ lent n (now (counters .entry)) ⌝ }
+{
+    let count = base::least(n, counters.len());
+    &counters[..count]
 }
 
 // Prints the words that are lent for phrases.
@@ -83,7 +99,9 @@ fn read(small: SmallIndex, place: usize, ranks: &mut [u32]) {
 
 impl SmallIndex {
     // Builds the index of a text in arrays that hold nothing but 7, to be lent in these sizes.
-    pub fn built(shape: Shape, text: &[u32], sizes: Sizes) -> SmallIndex {
+    pub fn built(shape: Shape, text: &[u32], sizes: Sizes) -> SmallIndex
+        ensures { λ r. ⌜ r ≡ builtIndex shape (now (text .entry)) sizes ⌝ }
+    {
         let mut lengths = [7u32; 16514];
         let mut bytes = [7u8; 20];
         let mut superblocks = [7u32; 2560];
@@ -108,7 +126,9 @@ impl SmallIndex {
     }
 
     // Builds the index of a text with B 256 and b 8, so that it has one row of counters of each kind.
-    pub fn of(vocabulary: usize, text: &[u32], nodes: usize, bytes: usize) -> SmallIndex {
+    pub fn of(vocabulary: usize, text: &[u32], nodes: usize, bytes: usize) -> SmallIndex
+        ensures { λ r. ⌜ r ≡ builtIndex (shapeOf vocabulary 256 8) (now (text .entry)) (sizesOf nodes bytes 256 256) ⌝ }
+    {
         SmallIndex::built(
             shape_of(vocabulary, 256, 8),
             text,
@@ -117,7 +137,9 @@ impl SmallIndex {
     }
 
     // The same, with a line printed: V, n, the text, and the answer of building.
-    pub fn shown(vocabulary: usize, text: &[u32], nodes: usize, bytes: usize) -> SmallIndex {
+    pub fn shown(vocabulary: usize, text: &[u32], nodes: usize, bytes: usize) -> SmallIndex
+        ensures { λ r. ⌜ r ≡ builtIndex (shapeOf vocabulary 256 8) (now (text .entry)) (sizesOf nodes bytes 256 256) ⌝ }
+    {
         let small = SmallIndex::of(vocabulary, text, nodes, bytes);
         printing::words(b"V ");
         printing::number(vocabulary);
@@ -130,7 +152,9 @@ impl SmallIndex {
     }
 
     // The same arrays with another V, B and b.
-    pub fn with_shape(mut self, vocabulary: usize, block: usize, per: usize) -> SmallIndex {
+    pub fn with_shape(mut self, vocabulary: usize, block: usize, per: usize) -> SmallIndex
+        ensures { λ r. ⌜ r ≡ reshaped (shapeOf vocabulary block per) self ⌝ }
+    {
         self.shape = shape_of(vocabulary, block, per);
         self
     }
@@ -142,13 +166,17 @@ impl SmallIndex {
         bytes: usize,
         upper: usize,
         lower: usize,
-    ) -> SmallIndex {
+    ) -> SmallIndex
+        ensures { λ r. ⌜ r ≡ resized (sizesOf nodes bytes upper lower) self ⌝ }
+    {
         self.sizes = sizes_of(nodes, bytes, upper, lower);
         self
     }
 
     // Checks the index.
-    pub fn check(self) -> Answer {
+    pub fn check(self) -> Answer
+        ensures { λ r. ⌜ r ≡ checkAnswer 128 (self .shape) (lentArrays self) ⌝ }
+    {
         let lengths = self.lengths;
         let bytes = self.bytes;
         let superblocks = self.superblocks;
@@ -163,7 +191,9 @@ impl SmallIndex {
     }
 
     // Asks a question of the index.
-    pub fn ask(self, words: &[u32], question: Question) -> Answer {
+    pub fn ask(self, words: &[u32], question: Question) -> Answer
+        ensures { λ r. ⌜ r ≡ askAnswer 128 (self .shape) (lentArrays self) (now (words .entry)) question ⌝ }
+    {
         let lengths = self.lengths;
         let bytes = self.bytes;
         let superblocks = self.superblocks;
@@ -180,7 +210,10 @@ impl SmallIndex {
     }
 
     // Reads a passage of the index.
-    pub fn passage(self, place: usize, ranks: &mut [u32]) -> Answer {
+    pub fn passage(self, place: usize, ranks: &mut [u32]) -> Answer
+        ensures answered { λ r. ⌜ r ≡ passageAnswer 128 (self .shape) (lentArrays self) place (now (ranks .entry)) ⌝ }
+        ensures read { λ _. ⌜ now (ranks .exit) ≡ passageExit 128 (self .shape) (lentArrays self) place (now (ranks .entry)) ⌝ }
+    {
         let lengths = self.lengths;
         let bytes = self.bytes;
         let superblocks = self.superblocks;
@@ -220,7 +253,10 @@ impl SmallIndex {
         start: usize,
         count: usize,
         lines: &mut [u32],
-    ) -> Page {
+    ) -> Page
+        ensures returned { λ r. ⌜ r ≡ pageOf (callOf 128 (self .shape) (lentArrays self) (now (words .entry)) start count (now (lines .entry))) state .page ⌝ }
+        ensures written { λ _. ⌜ now (lines .exit) ≡ pageOf (callOf 128 (self .shape) (lentArrays self) (now (words .entry)) start count (now (lines .entry))) state .lines ⌝ }
+    {
         let lengths = self.lengths;
         let bytes = self.bytes;
         let superblocks = self.superblocks;

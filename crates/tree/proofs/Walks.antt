@@ -1,6 +1,6 @@
 -- Laws of the walk and of the rank that it reads, step by step. Assumes nothing.
 use Prim.Native.Nat.{ℕ, zero, suc, _≤_, _<_}
-use mathlib.Core.Path.{_≡_, refl, ap}
+use mathlib.Core.Path.{_≡_, ap}
 use mathlib.Core.Bool.{Bool, true, false, cond}
 use mathlib.Core.List.{List, [], _∷_, getLastD}
 use native.Mathlib.Omega.{arith}
@@ -33,18 +33,10 @@ walk-length s ns (suc n) k i = go (closes s (byte ns k i)) (walk-length s ns n (
 
 -- ---- the rank that is read
 
--- at a closing byte, on the last level at any byte, and at a continuing byte above it
+-- at a closing byte, and at a continuing byte above the last level
 pub word-closing : (s : ℕ) (ns : List (List ℕ)) (n k i b : ℕ) → byte ns k i ≡ b → continuing s ≤ b → wordAt s ns (suc n) k i ≡ rankIn s k b
 unfolding getLastD
 word-closing s ns n k i b q h = ap (rankFrom s k) (walk-closing s ns n k i b q h)
-
-pub word-last : (s : ℕ) (ns : List (List ℕ)) (k i b : ℕ) → byte ns k i ≡ b → wordAt s ns 1 k i ≡ rankIn s k b
-unfolding getLastD
-word-last s ns k i b q = rw q (go (closes s b))
-  where
-    go : (t : Bool) → rankFrom s k (b ∷ cond t [] []) ≡ rankIn s k b
-    go true = refl
-    go false = refl
 
 pub word-going : (s : ℕ) (ns : List (List ℕ)) (n k i b : ℕ) → byte ns k i ≡ b → b < continuing s
     → wordAt s ns (suc (suc n)) k i ≡ wordAt s ns (suc n) (child s k b) (countOf b (take i (node ns k)))

@@ -63,7 +63,7 @@ use Rattle.dense.specs.Code.{Closing}
 use Rattle.index.specs.declared.Shape.{Shape}
 use Rattle.index.specs.Arrays.{Arrays, arrays, textIn}
 use Rattle.index.specs.Entries.{checkAnswer}
-use Rattle.index.specs.Starts.{NodeStarts}
+use Rattle.index.specs.Starts.{maxStarts, NodeStarts}
 use Rattle.words.specs.Ready.{Ready}
 use Rattle.words.proofs.Parts.{accepted-checked}
 use Rattle.questions.specs.declared.Question.{Question}
@@ -113,7 +113,7 @@ closing-128 : Closing 128
 closing-128 = record { least = lit≤ tt; most = lit≤ tt }
 
 abbrev size : ℕ
-size = 65282
+size = maxStarts
 
 size-room : Room u32 size
 size-room = (lit< tt, lit< tt)

@@ -2,7 +2,7 @@
 use Prim.Native.Nat.{_-_}
 use native.Mathlib.Omega.{arith}
 use borrow.Author.Needs.{needs}
-use Rattle.directory.proofs.Searches.{Left, last-left}
+use Rattle.directory.proofs.Searches.{Left, last-of-more}
 use Rattle.directory.proofs.search_blocks.Statement.{statement}
 use Rattle.directory.proofs.search_blocks.Tie as tie
 
@@ -39,8 +39,13 @@ loop-less-2 c = search needs
 loop-again-2 : tie.Need-loop-again-2 Inv-loop μ-loop
 loop-again-2 c = search needs
 
+walk-blocks-requires : tie.Need-walk-blocks-requires Inv-loop μ-loop
+walk-blocks-requires c κs = search needs
+
 returns : tie.Need-returns Inv-loop μ-loop
-returns c = last-left (c .before .loop .inv) (omega arith)
+returns c =
+    let l = c .before .before .loop .inv in
+    last-of-more _ _ (c .walk-blocks .ensures) (l .from) (l .to) (l .more)
 
 pub search-blocks-spec : {M : Type 1} → statement M
 search-blocks-spec =
@@ -57,4 +62,5 @@ search-blocks-spec =
     loop-again
     loop-less-2
     loop-again-2
+    walk-blocks-requires
     returns)

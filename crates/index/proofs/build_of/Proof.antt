@@ -33,11 +33,11 @@ is-text : (c : tie.Else4) → IsText (c .before .before .before .before .before 
 is-text c = record { short = c .before .before .before .if2 .left; ranks = below-of-test (c .before .before .before .before .before .before .before .before .before .before .before .args .shape .vocabulary) (c .before .before .before .before .before .before .before .before .before .before .before .args .text .now) (ranks-inside c) }
 
 -- what is answered of the slices is whether they are too short for the index
-shorter : (c : tie.After-is-shorter) → c .is-shorter .result
+shorter : (c : tie.After-too-short) → c .too-short .result
     ≡ isShorter (arrays (c .before .before .before .before .before .before .before .before .before .before .before .before .before .before .before .before .before .args .lengths .now) (c .before .before .before .before .before .before .before .before .before .before .before .before .before .before .before .before .before .args .bytes .now) (c .before .before .before .before .before .before .before .before .before .before .before .before .before .before .before .before .before .args .superblocks .now) (c .before .before .before .before .before .before .before .before .before .before .before .before .before .before .before .before .before .args .blocks .now)) (indexOf (c .before .before .before .before .before .before .before .before .before .before .before .before .before .before .before .before .before .args .s) (c .before .before .before .before .before .before .before .before .before .before .before .before .before .before .before .before .before .args .shape) (c .before .before .before .before .before .before .before .before .before .before .before .before .before .before .before .before .before .args .text .now))
 shorter c = let a = c .before .before .before .before .before .before .before .before .before .before .before .before .before .before .before .before .before .args in
     let z = arrays (a .lengths .now) (a .bytes .now) (a .superblocks .now) (a .blocks .now) in
-    c .is-shorter .ensures ∙ ap (λ (l : ℕ). tooShort (a .s) (a .shape) l z) (c .before .before .before .before .before .stream-length .ensures)
+    c .too-short .ensures ∙ ap (λ (l : ℕ). tooShort (a .s) (a .shape) l z) (c .before .before .before .before .before .stream-length .ensures)
     ∙ short-is (a .s) (a .shape) (a .text .now) (c .before .before .before .before .before .before .before .before .before .before .before .before .before .before .before .before .before .pre) (within (c .before .before .before .before .before .before .before .before)) (is-text (c .before .before .before .before .before .before)) z
 
 -- past all tests, the index can be built
@@ -97,8 +97,8 @@ returns-4 c = let a = c .before .before .before .before .before .before .before 
 stream-length-requires : tie.Need-stream-length-requires
 stream-length-requires c κs = search needs
 
-is-shorter-requires : tie.Need-is-shorter-requires
-is-shorter-requires c κs = (c .before .before .before .before .before .before .before .before .before .before .before .before .before .before .before .before .pre, within (c .before .before .before .before .before .before .before), rw (c .before .before .before .before .stream-length .ensures) (stream-short (c .before .before .before .before .before .before .before .before .before .before .before .before .before .before .before .before .args .s) (c .before .before .before .before .before .before .before .before .before .before .before .before .before .before .before .before .args .shape) (c .before .before .before .before .before .before .before .before .before .before .before .before .before .before .before .before .args .text .now) (c .before .before .before .before .before .before .before .before .before .before .before .before .before .before .before .before .pre) (within (c .before .before .before .before .before .before .before)) (is-text (c .before .before .before .before .before))))
+too-short-requires : tie.Need-too-short-requires
+too-short-requires c κs = (c .before .before .before .before .before .before .before .before .before .before .before .before .before .before .before .before .pre, within (c .before .before .before .before .before .before .before), rw (c .before .before .before .before .stream-length .ensures) (stream-short (c .before .before .before .before .before .before .before .before .before .before .before .before .before .before .before .before .args .s) (c .before .before .before .before .before .before .before .before .before .before .before .before .before .before .before .before .args .shape) (c .before .before .before .before .before .before .before .before .before .before .before .before .before .before .before .before .args .text .now) (c .before .before .before .before .before .before .before .before .before .before .before .before .before .before .before .before .pre) (within (c .before .before .before .before .before .before .before)) (is-text (c .before .before .before .before .before))))
 
 refused-requires-4 : tie.Need-refused-requires-4
 refused-requires-4 c κs = search needs
@@ -161,7 +161,7 @@ build-of-spec =
     refused-at-requires
     returns-4
     stream-length-requires
-    is-shorter-requires
+    too-short-requires
     refused-requires-4
     same-length
     same-length-2

@@ -7,10 +7,10 @@ use Rattle.printing.proofs.ranks.Statement.{statement}
 use Rattle.printing.proofs.ranks.Tie as tie
 
 abbrev Inv-loop : tie.InvT-loop
-Inv-loop s i₀ t3 i = i ≤ length s
+Inv-loop list i₀ t3 i = i ≤ length list
 
 abbrev μ-loop : tie.MeasureT-loop
-μ-loop s i₀ t3 i = length s - i
+μ-loop list i₀ t3 i = length list - i
 
 loop-holds : tie.Need-loop-holds Inv-loop μ-loop
 loop-holds c = search needs

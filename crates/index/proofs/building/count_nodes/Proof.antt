@@ -6,14 +6,14 @@ use borrow.Author.Needs.{needs}
 use lib.ListN.{length, take, length-replicate}
 use lib.Seq.{take-all}
 use Rattle.tree.specs.Nodes.{nodeBytes}
-use Rattle.index.specs.Filling.{nodeLengths, Counted}
+use Rattle.index.specs.Filling.{nodeLengths, LengthsCounted}
 use Rattle.index.proofs.Filling.{counted-none, counted-same, counted-lengths}
 use Rattle.index.proofs.building.count_nodes.Statement.{statement}
 use Rattle.index.proofs.building.count_nodes.Tie as tie
 
 abbrev Inv-loop : tie.InvT-loop
 Inv-loop s text lengths₀ place₀ lengths place =
-    (place ≤ length text) × (length lengths ≡ length lengths₀) × Counted (λ k. nodeBytes s k (take place text)) lengths
+    (place ≤ length text) × (length lengths ≡ length lengths₀) × LengthsCounted (λ k. nodeBytes s k (take place text)) lengths
 
 abbrev μ-loop : tie.MeasureT-loop
 μ-loop s text lengths₀ place₀ lengths place = length text - place

@@ -7,14 +7,14 @@ use lib.ListN.{length, getD, length-set}
 use Rattle.base.proofs.Lists.{all-at}
 use Rattle.dense.specs.Code.{maxVocabulary}
 use Rattle.dense.proofs.Words.{encoded-length}
-use Rattle.index.specs.Filling.{Counted}
+use Rattle.index.specs.Filling.{LengthsCounted}
 use Rattle.index.proofs.Filling.{nodeAt, held, word, encoded-byte, held-none, held-all, counted-same, node-next, counted-next, next-inside, next-most}
 use Rattle.index.proofs.building.count_word.Statement.{statement}
 use Rattle.index.proofs.building.count_word.Tie as tie
 
 abbrev Inv-loop : tie.InvT-loop
 Inv-loop s text place lengths₀ code count node₀ i₀ lengths node i =
-    (i ≤ count) × (node ≡ nodeAt s text place i) × (length lengths ≡ length lengths₀) × Counted (held s text place i) lengths
+    (i ≤ count) × (node ≡ nodeAt s text place i) × (length lengths ≡ length lengths₀) × LengthsCounted (held s text place i) lengths
 
 abbrev μ-loop : tie.MeasureT-loop
 μ-loop s text place lengths₀ code count node₀ i₀ lengths node i = count - i

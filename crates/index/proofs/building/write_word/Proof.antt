@@ -7,7 +7,7 @@ use lib.ListN.{length, getD, length-set}
 use Rattle.base.proofs.Lists.{all-at}
 use Rattle.dense.specs.Code.{maxVocabulary}
 use Rattle.dense.proofs.Words.{encoded-length}
-use Rattle.index.specs.Filling.{Counted, Stands}
+use Rattle.index.specs.Filling.{LengthsCounted, Stands}
 use Rattle.index.proofs.Filling.{lengths-number, nodeAt, held, word, encoded-byte, held-none, held-all, counted-same, stands-same, node-next, counted-next, stands-next, next-inside, next-most, next-place}
 use Rattle.index.proofs.building.write_word.Statement.{statement}
 use Rattle.index.proofs.building.write_word.Tie as tie
@@ -15,7 +15,7 @@ use Rattle.index.proofs.building.write_word.Tie as tie
 abbrev Inv-loop : tie.InvT-loop
 Inv-loop s text place starts lengths₀ bytes₀ code size node₀ i₀ lengths bytes node i =
     (i ≤ size) × (node ≡ nodeAt s text place i) × (length lengths ≡ length lengths₀) × (length bytes ≡ length bytes₀)
-    × Counted (held s text place i) lengths × Stands (held s text place i) (length lengths₀) starts bytes
+    × LengthsCounted (held s text place i) lengths × Stands (held s text place i) (length lengths₀) starts bytes
 
 abbrev μ-loop : tie.MeasureT-loop
 μ-loop s text place starts lengths₀ bytes₀ code size node₀ i₀ lengths bytes node i = size - i

@@ -6,7 +6,7 @@ use borrow.Author.Needs.{needs}
 use lib.ListN.{length, take, length-replicate}
 use lib.Seq.{take-all}
 use Rattle.tree.specs.Nodes.{nodeBytes}
-use Rattle.index.specs.Filling.{nodeLengths, Counted, Stands}
+use Rattle.index.specs.Filling.{nodeLengths, LengthsCounted, Stands}
 use Rattle.index.proofs.Filling.{counted-none, counted-same, counted-lengths, stands-none, stands-same, stands-whole}
 use Rattle.index.proofs.building.write_words.Statement.{statement}
 use Rattle.index.proofs.building.write_words.Tie as tie
@@ -14,7 +14,7 @@ use Rattle.index.proofs.building.write_words.Tie as tie
 abbrev Inv-loop : tie.InvT-loop
 Inv-loop s text starts lengths₀ bytes₀ place₀ lengths bytes place =
     (place ≤ length text) × (length lengths ≡ length lengths₀) × (length bytes ≡ length bytes₀)
-    × Counted (λ k. nodeBytes s k (take place text)) lengths × Stands (λ k. nodeBytes s k (take place text)) (length lengths) starts bytes
+    × LengthsCounted (λ k. nodeBytes s k (take place text)) lengths × Stands (λ k. nodeBytes s k (take place text)) (length lengths) starts bytes
 
 abbrev μ-loop : tie.MeasureT-loop
 μ-loop s text starts lengths₀ bytes₀ place₀ lengths bytes place = length text - place

@@ -1,11 +1,11 @@
--- `index::building::is_shorter` meets its contract: the four tests are those of the definition. Assumes nothing.
+-- `index::building::too_short` meets its contract: the four tests are those of the definition. Assumes nothing.
 use Prim.Native.Nat.{_*_}
 use native.Mathlib.Nat.{mul-pos, div-le-self}
 use native.Mathlib.Omega.{arith}
 use borrow.Author.Needs.{needs}
 use Rattle.index.specs.Filling.{tooShort}
-use Rattle.index.proofs.building.is_shorter.Statement.{statement}
-use Rattle.index.proofs.building.is_shorter.Tie as tie
+use Rattle.index.proofs.building.too_short.Statement.{statement}
+use Rattle.index.proofs.building.too_short.Tie as tie
 
 node-count-requires : tie.Need-node-count-requires
 node-count-requires c κs = search needs
@@ -32,8 +32,8 @@ returns : tie.Need-returns
 unfolding tooShort
 returns c = rw (c .before .before .before .node-count .ensures, c .before .row-count .ensures, c .row-count2 .ensures)
 
-pub is-shorter-spec : {M : Type 1} → statement M
-is-shorter-spec =
+pub too-short-spec : {M : Type 1} → statement M
+too-short-spec =
     tie.close
     (tie.spec
     node-count-requires
