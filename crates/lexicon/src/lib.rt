@@ -2,16 +2,16 @@
 // entry `read_text`. The functions that take a table work with every table that keeps the rule.
 ghost use mathlib.Core.Path.{_≡_};
 ghost use mathlib.Core.Bool.{true, cond};
-ghost use Prim.Native.Nat.{_+_, _-_, _≤_, _<_};
+ghost use Prim.Native.Nat.{ℕ, _+_, _-_, _≤_, _<_};
 ghost use lib.Dec.{ltb};
-ghost use lib.ListN.{length, take, drop, set, replicate};
+ghost use lib.ListN.{length, take, drop, getD, set};
 ghost use Rattle.base.specs.Lists.{same};
 ghost use Rattle.base.specs.Answers.{front};
 ghost use Rattle.lexicon.specs.Letters.{letterOf, letters as lettersOf, isTable};
 ghost use Rattle.lexicon.specs.Lexicon.{listSize, distinct, isWritten};
 ghost use Rattle.lexicon.specs.Reading.{textWords, readTextAnswer, readTextExit};
 ghost use Rattle.lexicon.specs.Scans.{letterAt, startFrom, wordAt, wordsAt, spellings, Begins, buckets, bucketOf};
-ghost use Rattle.lexicon.specs.Parts.{maxPart, Part, indexIn, countIn, countListed, isUnrepeated, firstMissing, ranksIn, Ranked, Readable};
+ghost use Rattle.lexicon.specs.Parts.{maxPart, Starts, Chains, Part, indexIn, countIn, countListed, isUnrepeated, firstMissing, ranksIn, Ranked, Readable};
 use base::Answer;
 use base::refusal;
 
@@ -435,7 +435,59 @@ fn skip_words(table: &[u8], text: &[u8], at: usize, size: usize) -> usize
     start
 }
 
-// Puts the words from an offset of a list on, so many, into an empty hash table.
+// Empties the buckets of a hash table.
+fn clear(heads: &mut [u16])
+    ensures { λ _. ⌜ ((b : ℕ) → b < length (now (heads .entry)) → getD (now (heads .exit)) b 0 ≡ 0) ⌝ }
+{
+    let mut bucket = 0;
+    while bucket < heads.len() {
+        heads[bucket] = 0;
+        bucket += 1;
+    }
+}
+
+// Notes where each of so many words from an offset of a list on begins.
+fn note_starts(table: &[u8], list: &[u8], from: usize, count: usize, starts: &mut [usize])
+    requires { ⌜ (isTable (now table) ≡ true) × Begins (now table) (now list) from × (count ≤ maxPart) × (count ≤ length (wordsAt (now table) (now list) from)) × (length (now starts) ≡ maxPart) ⌝ }
+    ensures { λ _. ⌜ Starts (now (table .entry)) (now (list .entry)) from count (now (starts .exit)) ⌝ }
+{
+    let mut at = from;
+    let mut word: usize = 0;
+    while word < count {
+        starts[word] = at;
+        let scan = scan_word(table, list, at);
+        let end = scan.end;
+        at = word_start(table, list, end);
+        word += 1;
+    }
+}
+
+// Puts so many words of a list, whose starts are noted, into an empty hash table: the last one first,
+// so that a bucket has its words in their order.
+fn chain(
+    table: &[u8],
+    list: &[u8],
+    from: usize,
+    count: usize,
+    heads: &mut [u16],
+    links: &mut [u16],
+    starts: &[usize],
+)
+    requires { ⌜ (isTable (now table) ≡ true) × (count ≤ maxPart) × Starts (now table) (now list) from count (now starts) × Chains (now table) (now list) from count count (now heads) (now links) ⌝ }
+    ensures { λ _. ⌜ Chains (now (table .entry)) (now (list .entry)) from count 0 (now (heads .exit)) (now (links .exit)) ⌝ }
+{
+    let mut word = count;
+    while 0 < word {
+        let start = starts[word - 1];
+        let scan = scan_word(table, list, start);
+        let bucket = scan.bucket;
+        links[word - 1] = heads[bucket];
+        heads[bucket] = word as u16;
+        word -= 1;
+    }
+}
+
+// Makes the hash table of so many words from an offset of a list on.
 fn build(
     table: &[u8],
     list: &[u8],
@@ -445,21 +497,12 @@ fn build(
     links: &mut [u16],
     starts: &mut [usize],
 )
-    requires { ⌜ (isTable (now table) ≡ true) × Begins (now table) (now list) from × (count ≤ maxPart) × (count ≤ length (wordsAt (now table) (now list) from)) × (now heads ≡ replicate buckets 0) × (length (now links) ≡ maxPart) × (length (now starts) ≡ maxPart) ⌝ }
+    requires { ⌜ (isTable (now table) ≡ true) × Begins (now table) (now list) from × (count ≤ maxPart) × (count ≤ length (wordsAt (now table) (now list) from)) × (length (now heads) ≡ buckets) × (length (now links) ≡ maxPart) × (length (now starts) ≡ maxPart) ⌝ }
     ensures { λ _. ⌜ Part (now (table .entry)) (now (list .entry)) from count (now (heads .exit)) (now (links .exit)) (now (starts .exit)) ⌝ }
 {
-    let mut at = from;
-    let mut word: usize = 0;
-    while word < count {
-        let scan = scan_word(table, list, at);
-        let bucket = scan.bucket;
-        let end = scan.end;
-        links[word] = heads[bucket];
-        heads[bucket] = (word + 1) as u16;
-        starts[word] = at;
-        at = word_start(table, list, end);
-        word += 1;
-    }
+    clear(heads);
+    note_starts(table, list, from, count, starts);
+    chain(table, list, from, count, heads, links, starts);
 }
 
 // Looks a word of a text up in a part of a list: 1 and its number there, 0 where it is not.
