@@ -14,7 +14,7 @@ use Rattle.lexicon.specs.Scans.{wordsAt, wordAt, spellings, buckets, buc
 
 -- the most words of a part
 abbrev pub maxPart : ℕ
-maxPart = 65535
+maxPart = 100000
 
 -- 1 and the first of the n numbers from p on that passes the test; 0 where there is none
 abbrev pub nextWhere : (ℕ → Bool) → ℕ → ℕ → ℕ
@@ -32,6 +32,12 @@ nextIn table list from k bucket p = nextWhere (λ j. eqb (bucketOf (spelledAt ta
 -- 1 and the number of the first of the first k words from an offset on that is w; 0 where there is none
 unfoldable pub indexIn : List ℕ → List ℕ → ℕ → ℕ → List ℕ → ℕ
 indexIn table list from k w = nextWhere (λ j. same w (spelledAt table list from j)) 0 k
+
+-- room for the hash table of a part
+pub record Room (heads links starts : List ℕ) : Type 0 where
+  pub headsLong : length heads ≡ buckets
+  pub linksLong : length links ≡ maxPart
+  pub startsLong : length starts ≡ maxPart
 
 -- where each of the k words from an offset of a list on begins
 pub record Starts (table list : List ℕ) (from k : ℕ) (starts : List ℕ) : Type 0 where

@@ -10,8 +10,8 @@ ghost use Rattle.base.specs.Answers.{front};
 ghost use Rattle.lexicon.specs.Letters.{letterOf, letters as lettersOf, isTable};
 ghost use Rattle.lexicon.specs.Lexicon.{listSize, distinct, isWritten};
 ghost use Rattle.lexicon.specs.Reading.{textWords, readTextAnswer, readTextExit};
-ghost use Rattle.lexicon.specs.Scans.{letterAt, startFrom, wordAt, wordsAt, spellings, Begins, buckets, bucketOf};
-ghost use Rattle.lexicon.specs.Parts.{maxPart, Starts, Chains, Part, indexIn, countIn, countListed, isUnrepeated, firstMissing, ranksIn, Ranked, Readable};
+ghost use Rattle.lexicon.specs.Scans.{letterAt, startFrom, wordAt, wordsAt, spellings, Begins, bucketOf};
+ghost use Rattle.lexicon.specs.Parts.{maxPart, Room, Starts, Chains, Part, indexIn, countIn, countListed, isUnrepeated, firstMissing, ranksIn, Ranked, Readable};
 use base::Answer;
 use base::refusal;
 
@@ -276,7 +276,7 @@ pub const LETTERS: [u8; 256] = [
 ];
 
 // The most words of a part of a list that is put into a hash table.
-const MAX_PART: usize = 65535;
+const MAX_PART: usize = 100000;
 
 // What the letter table folds a byte to, 0 for a separator.
 pub fn letter(b: u8) -> u8
@@ -436,7 +436,7 @@ fn skip_words(table: &[u8], text: &[u8], at: usize, size: usize) -> usize
 }
 
 // Empties the buckets of a hash table.
-fn clear(heads: &mut [u16])
+fn clear(heads: &mut [u32])
     ensures { λ _. ⌜ ((b : ℕ) → b < length (now (heads .entry)) → getD (now (heads .exit)) b 0 ≡ 0) ⌝ }
 {
     let mut bucket = 0;
@@ -469,8 +469,8 @@ fn chain(
     list: &[u8],
     from: usize,
     count: usize,
-    heads: &mut [u16],
-    links: &mut [u16],
+    heads: &mut [u32],
+    links: &mut [u32],
     starts: &[usize],
 )
     requires { ⌜ (isTable (now table) ≡ true) × (count ≤ maxPart) × Starts (now table) (now list) from count (now starts) × Chains (now table) (now list) from count count (now heads) (now links) ⌝ }
@@ -482,7 +482,7 @@ fn chain(
         let scan = scan_word(table, list, start);
         let bucket = scan.bucket;
         links[word - 1] = heads[bucket];
-        heads[bucket] = word as u16;
+        heads[bucket] = word as u32;
         word -= 1;
     }
 }
@@ -493,11 +493,11 @@ fn build(
     list: &[u8],
     from: usize,
     count: usize,
-    heads: &mut [u16],
-    links: &mut [u16],
+    heads: &mut [u32],
+    links: &mut [u32],
     starts: &mut [usize],
 )
-    requires { ⌜ (isTable (now table) ≡ true) × Begins (now table) (now list) from × (count ≤ maxPart) × (count ≤ length (wordsAt (now table) (now list) from)) × (length (now heads) ≡ buckets) × (length (now links) ≡ maxPart) × (length (now starts) ≡ maxPart) ⌝ }
+    requires { ⌜ (isTable (now table) ≡ true) × Begins (now table) (now list) from × (count ≤ maxPart) × (count ≤ length (wordsAt (now table) (now list) from)) × Room (now heads) (now links) (now starts) ⌝ }
     ensures { λ _. ⌜ Part (now (table .entry)) (now (list .entry)) from count (now (heads .exit)) (now (links .exit)) (now (starts .exit)) ⌝ }
 {
     clear(heads);
@@ -511,8 +511,8 @@ fn find(
     list: &[u8],
     from: usize,
     count: usize,
-    heads: &[u16],
-    links: &[u16],
+    heads: &[u32],
+    links: &[u32],
     starts: &[usize],
     text: &[u8],
     at: usize,
@@ -538,8 +538,8 @@ fn count_found(
     list: &[u8],
     from: usize,
     count: usize,
-    heads: &[u16],
-    links: &[u16],
+    heads: &[u32],
+    links: &[u32],
     starts: &[usize],
     text: &[u8],
     at: usize,
@@ -576,39 +576,31 @@ fn count_found(
     found
 }
 
-// The same, with the hash table of the part made for it.
+// The same, with the hash table of the part made in the slices that are lent.
 fn count_in_part(
     table: &[u8],
     list: &[u8],
     from: usize,
     count: usize,
+    heads: &mut [u32],
+    links: &mut [u32],
+    starts: &mut [usize],
     text: &[u8],
     at: usize,
     size: usize,
 ) -> usize
-    requires { ⌜ (isTable (now table) ≡ true) × Begins (now table) (now list) from × (count ≤ maxPart) × (count ≤ length (wordsAt (now table) (now list) from)) × Begins (now table) (now text) at × (size ≤ length (wordsAt (now table) (now text) at)) ⌝ }
+    requires { ⌜ (isTable (now table) ≡ true) × Begins (now table) (now list) from × (count ≤ maxPart) × (count ≤ length (wordsAt (now table) (now list) from)) × Begins (now table) (now text) at × (size ≤ length (wordsAt (now table) (now text) at)) × Room (now heads) (now links) (now starts) ⌝ }
     ensures { λ r. ⌜ r ≡ countIn (now (table .entry)) (now (list .entry)) from count (take size (wordsAt (now (table .entry)) (now (text .entry)) at)) ⌝ }
 {
-    let mut heads = [0u16; 65536];
-    let mut links = [0u16; 65535];
-    let mut starts = [0usize; 65535];
-    build(
-        table,
-        list,
-        from,
-        count,
-        &mut heads,
-        &mut links,
-        &mut starts,
-    );
+    build(table, list, from, count, heads, links, starts);
     count_found(
         table,
         list,
         from,
         count,
-        &heads,
-        &links,
-        &starts,
+        heads,
+        links,
+        starts,
         text,
         at,
         size,
@@ -620,11 +612,14 @@ fn count_listed(
     table: &[u8],
     list: &[u8],
     words: usize,
+    heads: &mut [u32],
+    links: &mut [u32],
+    starts: &mut [usize],
     text: &[u8],
     at: usize,
     size: usize,
 ) -> usize
-    requires { ⌜ (isTable (now table) ≡ true) × (words ≡ length (spellings (now table) (now list))) × (distinct (spellings (now table) (now list)) ≡ true) × Begins (now table) (now text) at × (size ≤ length (wordsAt (now table) (now text) at)) ⌝ }
+    requires { ⌜ (isTable (now table) ≡ true) × (words ≡ length (spellings (now table) (now list))) × (distinct (spellings (now table) (now list)) ≡ true) × Begins (now table) (now text) at × (size ≤ length (wordsAt (now table) (now text) at)) × Room (now heads) (now links) (now starts) ⌝ }
     ensures { λ r. ⌜ r ≡ countListed (spellings (now (table .entry)) (now (list .entry))) (take size (wordsAt (now (table .entry)) (now (text .entry)) at)) ⌝ }
 {
     let mut from = word_start(table, list, 0);
@@ -632,7 +627,18 @@ fn count_listed(
     let mut found: usize = 0;
     while first < words {
         let count = base::least(words - first, MAX_PART);
-        found += count_in_part(table, list, from, count, text, at, size);
+        found += count_in_part(
+            table,
+            list,
+            from,
+            count,
+            heads,
+            links,
+            starts,
+            text,
+            at,
+            size,
+        );
         from = skip_words(table, list, from, count);
         first += count;
     }
@@ -641,18 +647,27 @@ fn count_listed(
 
 // The offset of the first word of a text of so many words that is not in a list; the text's length
 // where all are. A range that has such a word is halved until it is that word.
-fn first_unlisted(table: &[u8], list: &[u8], words: usize, text: &[u8], size: usize) -> usize
-    requires { ⌜ (isTable (now table) ≡ true) × (words ≡ length (spellings (now table) (now list))) × (distinct (spellings (now table) (now list)) ≡ true) × (size ≡ length (textWords (now table) (now text))) ⌝ }
+fn first_unlisted(
+    table: &[u8],
+    list: &[u8],
+    words: usize,
+    heads: &mut [u32],
+    links: &mut [u32],
+    starts: &mut [usize],
+    text: &[u8],
+    size: usize,
+) -> usize
+    requires { ⌜ (isTable (now table) ≡ true) × (words ≡ length (spellings (now table) (now list))) × (distinct (spellings (now table) (now list)) ≡ true) × (size ≡ length (textWords (now table) (now text))) × Room (now heads) (now links) (now starts) ⌝ }
     ensures { λ r. ⌜ r ≡ firstMissing (spellings (now (table .entry)) (now (list .entry))) (length (now (text .entry))) (textWords (now (table .entry)) (now (text .entry))) ⌝ }
 {
     let mut at = word_start(table, text, 0);
-    if count_listed(table, list, words, text, at, size) == size {
+    if count_listed(table, list, words, heads, links, starts, text, at, size) == size {
         return text.len();
     }
     let mut left = size;
     while 1 < left {
         let half = left / 2;
-        if count_listed(table, list, words, text, at, half) == half {
+        if count_listed(table, list, words, heads, links, starts, text, at, half) == half {
             at = skip_words(table, text, at, half);
             left -= half;
         } else {
@@ -669,8 +684,8 @@ fn is_unrepeated(
     list: &[u8],
     from: usize,
     count: usize,
-    heads: &[u16],
-    links: &[u16],
+    heads: &[u32],
+    links: &[u32],
     starts: &[usize],
     size: usize,
 ) -> bool
@@ -706,36 +721,50 @@ fn is_unrepeated(
     true
 }
 
-// The same, with the hash table of the part made for it.
-fn is_part_unrepeated(table: &[u8], list: &[u8], from: usize, count: usize, size: usize) -> bool
-    requires { ⌜ (isTable (now table) ≡ true) × Begins (now table) (now list) from × (count ≤ maxPart) × (count ≤ length (wordsAt (now table) (now list) from)) × (size ≤ length (wordsAt (now table) (now list) from)) ⌝ }
+// The same, with the hash table of the part made in the slices that are lent.
+fn is_part_unrepeated(
+    table: &[u8],
+    list: &[u8],
+    from: usize,
+    count: usize,
+    heads: &mut [u32],
+    links: &mut [u32],
+    starts: &mut [usize],
+    size: usize,
+) -> bool
+    requires { ⌜ (isTable (now table) ≡ true) × Begins (now table) (now list) from × (count ≤ maxPart) × (count ≤ length (wordsAt (now table) (now list) from)) × (size ≤ length (wordsAt (now table) (now list) from)) × Room (now heads) (now links) (now starts) ⌝ }
     ensures { λ r. ⌜ r ≡ isUnrepeated (now (table .entry)) (now (list .entry)) from count size ⌝ }
 {
-    let mut heads = [0u16; 65536];
-    let mut links = [0u16; 65535];
-    let mut starts = [0usize; 65535];
-    build(
-        table,
-        list,
-        from,
-        count,
-        &mut heads,
-        &mut links,
-        &mut starts,
-    );
-    is_unrepeated(table, list, from, count, &heads, &links, &starts, size)
+    build(table, list, from, count, heads, links, starts);
+    is_unrepeated(table, list, from, count, heads, links, starts, size)
 }
 
 // Whether no word of a list is there twice, part by part.
-fn is_distinct(table: &[u8], list: &[u8], words: usize) -> bool
-    requires { ⌜ (isTable (now table) ≡ true) × (words ≡ length (spellings (now table) (now list))) ⌝ }
+fn is_distinct(
+    table: &[u8],
+    list: &[u8],
+    words: usize,
+    heads: &mut [u32],
+    links: &mut [u32],
+    starts: &mut [usize],
+) -> bool
+    requires { ⌜ (isTable (now table) ≡ true) × (words ≡ length (spellings (now table) (now list))) × Room (now heads) (now links) (now starts) ⌝ }
     ensures { λ r. ⌜ r ≡ distinct (spellings (now (table .entry)) (now (list .entry))) ⌝ }
 {
     let mut from = word_start(table, list, 0);
     let mut first: usize = 0;
     while first < words {
         let count = base::least(words - first, MAX_PART);
-        if !is_part_unrepeated(table, list, from, count, words - first) {
+        if !is_part_unrepeated(
+            table,
+            list,
+            from,
+            count,
+            heads,
+            links,
+            starts,
+            words - first,
+        ) {
             return false;
         }
         from = skip_words(table, list, from, count);
@@ -761,8 +790,8 @@ fn write_found(
     list: &[u8],
     from: usize,
     count: usize,
-    heads: &[u16],
-    links: &[u16],
+    heads: &[u32],
+    links: &[u32],
     starts: &[usize],
     first: usize,
     text: &[u8],
@@ -796,40 +825,32 @@ fn write_found(
     }
 }
 
-// The same, with the hash table of the part made for it.
+// The same, with the hash table of the part made in the slices that are lent.
 fn write_part(
     table: &[u8],
     list: &[u8],
     from: usize,
     count: usize,
+    heads: &mut [u32],
+    links: &mut [u32],
+    starts: &mut [usize],
     first: usize,
     text: &[u8],
     size: usize,
     ranks: &mut [u32],
 )
-    requires { ⌜ (isTable (now table) ≡ true) × Begins (now table) (now list) from × (count ≤ maxPart) × (count ≤ length (wordsAt (now table) (now list) from)) × (first + count ≤ 4294967295) × (size ≡ length (textWords (now table) (now text))) × (size ≤ length (now ranks)) ⌝ }
+    requires { ⌜ (isTable (now table) ≡ true) × Begins (now table) (now list) from × (count ≤ maxPart) × (count ≤ length (wordsAt (now table) (now list) from)) × (first + count ≤ 4294967295) × (size ≡ length (textWords (now table) (now text))) × (size ≤ length (now ranks)) × Room (now heads) (now links) (now starts) ⌝ }
     ensures { λ _. ⌜ Ranked (now (table .entry)) (now (list .entry)) from count first (textWords (now (table .entry)) (now (text .entry))) (now (ranks .entry)) (now (ranks .exit)) ⌝ }
 {
-    let mut heads = [0u16; 65536];
-    let mut links = [0u16; 65535];
-    let mut starts = [0usize; 65535];
-    build(
-        table,
-        list,
-        from,
-        count,
-        &mut heads,
-        &mut links,
-        &mut starts,
-    );
+    build(table, list, from, count, heads, links, starts);
     write_found(
         table,
         list,
         from,
         count,
-        &heads,
-        &links,
-        &starts,
+        heads,
+        links,
+        starts,
         first,
         text,
         size,
@@ -839,15 +860,37 @@ fn write_part(
 
 // Writes the ranks of the words of a text, all of them listed, to the front of a slice, part by
 // part. The rest stays.
-fn write_ranks(table: &[u8], list: &[u8], words: usize, text: &[u8], size: usize, ranks: &mut [u32])
-    requires { ⌜ Readable (now table) (now list) words (now text) size × (size ≤ length (now ranks)) ⌝ }
+fn write_ranks(
+    table: &[u8],
+    list: &[u8],
+    words: usize,
+    heads: &mut [u32],
+    links: &mut [u32],
+    starts: &mut [usize],
+    text: &[u8],
+    size: usize,
+    ranks: &mut [u32],
+)
+    requires { ⌜ Readable (now table) (now list) words (now text) size × (size ≤ length (now ranks)) × Room (now heads) (now links) (now starts) ⌝ }
     ensures { λ _. ⌜ now (ranks .exit) ≡ front (ranksIn (spellings (now (table .entry)) (now (list .entry))) (textWords (now (table .entry)) (now (text .entry)))) (now (ranks .entry)) ⌝ }
 {
     let mut from = word_start(table, list, 0);
     let mut first: usize = 0;
     while first < words {
         let count = base::least(words - first, MAX_PART);
-        write_part(table, list, from, count, first, text, size, ranks);
+        write_part(
+            table,
+            list,
+            from,
+            count,
+            heads,
+            links,
+            starts,
+            first,
+            text,
+            size,
+            ranks,
+        );
         from = skip_words(table, list, from, count);
         first += count;
     }
@@ -876,14 +919,36 @@ pub fn read_text_by(table: &[u8], list: &[u8], text: &[u8], ranks: &mut [u32]) -
     if !is_written(table, list) {
         return Answer::refused(refusal::WORD_LIST);
     }
-    if !is_distinct(table, list, words) {
+    let mut heads = [0u32; 65536];
+    let mut links = [0u32; 100000];
+    let mut starts = [0usize; 100000];
+    if !is_distinct(table, list, words, &mut heads, &mut links, &mut starts) {
         return Answer::refused(refusal::WORD_LIST);
     }
-    let unlisted = first_unlisted(table, list, words, text, size);
+    let unlisted = first_unlisted(
+        table,
+        list,
+        words,
+        &mut heads,
+        &mut links,
+        &mut starts,
+        text,
+        size,
+    );
     if unlisted < text.len() {
         return Answer::refused_at(refusal::UNLISTED, unlisted);
     }
-    write_ranks(table, list, words, text, size, ranks);
+    write_ranks(
+        table,
+        list,
+        words,
+        &mut heads,
+        &mut links,
+        &mut starts,
+        text,
+        size,
+        ranks,
+    );
     Answer::accepted(size)
 }
 

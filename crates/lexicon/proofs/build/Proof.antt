@@ -21,7 +21,7 @@ chain-requires c κs = let start = c .before .before .before .before .before .be
       start .pre .0,
       start .pre .2,
       c .before .before .before .before .before .note-starts .ensures,
-      chains-none (a .table .now) (a .list .now) (a .from) (a .count) _ _ (cleared .kept .0 ∙ start .pre .4) (λ b (h : b < buckets). cleared .ensures b (omega (arith, start .pre .4))) (start .pre .5),
+      chains-none (a .table .now) (a .list .now) (a .from) (a .count) _ _ (cleared .kept .0 ∙ start .pre .4 .headsLong) (λ b (h : b < buckets). cleared .ensures b (omega (arith, start .pre .4 .headsLong))) (start .pre .4 .linksLong),
     )
 
 same-length : tie.Need-same-length
