@@ -42,3 +42,32 @@ fn each_byte() {
         }
     }
 }
+
+/// Lists of as many words as a hash table has, of one more, and of more than two tables: words of each, one that is not listed, and one
+/// that is listed twice.
+#[test]
+fn long_lists() {
+    let mut random = Random::of("long_lists");
+    for vocabulary in [100_000, 100_001, 230_000] {
+        let list: Vec<u8> = (0..vocabulary).flat_map(|rank| format!("{rank:x}\n").into_bytes()).collect();
+        let edges = [0, 99_999, 100_000, 199_999, 200_000, vocabulary - 1];
+        let mut text = String::new();
+        for _ in 0..5_000 {
+            let drawn = [random.below(vocabulary), random.one_of(&edges).min(vocabulary - 1)];
+            let rank = random.one_of(&drawn);
+            text += &if random.once_in(2) { format!("{rank:x} ") } else { format!("{rank:X}, ") };
+        }
+        let unlisted = format!("{text}{vocabulary:x}");
+        let twice = [&list[..], b"a\n"].concat();
+        for (list, text, refusal, value) in
+            [(&list, &text, 0, 5_000), (&list, &unlisted, 14, text.len()), (&twice, &text, 13, 0)]
+        {
+            let mut ours = vec![88; 5_002];
+            let mut theirs = ours.clone();
+            let answer = calls::read_text(list, text.as_bytes(), &mut ours);
+            assert_eq!(answer, reference::read_text(list, text.as_bytes(), &mut theirs), "{vocabulary} words listed");
+            assert_eq!((answer.refusal, answer.value), (refusal, value), "{vocabulary} words listed");
+            assert!(ours == theirs, "{vocabulary} words listed");
+        }
+    }
+}

@@ -16,7 +16,7 @@ use Rattle.base.proofs.Tests.{same-or-not, below-or-not, and-left, and-right, o
 use Rattle.base.specs.Answers.{front}
 use Rattle.base.specs.Lists.{All, allPass, filterBy, firstWhere, rangeFrom}
 use Rattle.lexicon.proofs.Members.{first-where-passes, rank-below, distinct-at, distinct-place, rank-at, in-front, front-place, filter-most, filter-yes, filter-no, filter-either}
-use Rattle.lexicon.proofs.Parts.{index-most, index-word, index-after}
+use Rattle.lexicon.proofs.Parts.{index-most, index-word, index-absent}
 use Rattle.lexicon.proofs.Scans.{words-first}
 use Rattle.lexicon.specs.Lexicon.{rankIn, isIn, distinct}
 use Rattle.lexicon.specs.Parts.{spelledAt, indexIn, countIn, countListed, isOwn, isUnrepeated, firstMissing, Ranked, ranksIn}
@@ -47,7 +47,7 @@ module _ (table list : List ℕ) (from first : ℕ) (stands : Stands table list 
   index-place k i w e = index-word table list from w k i e ∙ spelled-in i
 
   pub index-nowhere : (k j : ℕ) (w : List ℕ) → indexIn table list from k w ≡ 0 → j < k → w ≡ getD (spellings table list) (first + j) [] → ⊥
-  index-nowhere k j w e h q = index-after table list from w k j h (omega arith) (q ∙ sym (spelled-in j))
+  index-nowhere k j w e h q = index-absent table list from w k j h e (q ∙ sym (spelled-in j))
 
   -- the words of the list up to the end of the part: those before it, and those found in it
   module _ (k : ℕ) (inside : first + k ≤ length (spellings table list)) where

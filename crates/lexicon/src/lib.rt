@@ -2,16 +2,16 @@
 // entry `read_text`. The functions that take a table work with every table that keeps the rule.
 ghost use mathlib.Core.Path.{_≡_};
 ghost use mathlib.Core.Bool.{true, cond};
-ghost use Prim.Native.Nat.{_+_, _-_, _≤_, _<_};
+ghost use Prim.Native.Nat.{ℕ, _+_, _-_, _≤_, _<_};
 ghost use lib.Dec.{ltb};
-ghost use lib.ListN.{length, take, drop, set, replicate};
+ghost use lib.ListN.{length, take, drop, getD, set};
 ghost use Rattle.base.specs.Lists.{same};
 ghost use Rattle.base.specs.Answers.{front};
 ghost use Rattle.lexicon.specs.Letters.{letterOf, letters as lettersOf, isTable};
 ghost use Rattle.lexicon.specs.Lexicon.{listSize, distinct, isWritten};
 ghost use Rattle.lexicon.specs.Reading.{textWords, readTextAnswer, readTextExit};
-ghost use Rattle.lexicon.specs.Scans.{letterAt, startFrom, wordAt, wordsAt, spellings, Begins, buckets, bucketOf};
-ghost use Rattle.lexicon.specs.Parts.{maxPart, Part, indexIn, countIn, countListed, isUnrepeated, firstMissing, ranksIn, Ranked, Readable};
+ghost use Rattle.lexicon.specs.Scans.{letterAt, startFrom, wordAt, wordsAt, spellings, Begins, bucketOf};
+ghost use Rattle.lexicon.specs.Parts.{maxPart, Room, Starts, Chains, Part, indexIn, countIn, countListed, isUnrepeated, firstMissing, ranksIn, Ranked, Readable};
 use base::Answer;
 use base::refusal;
 
@@ -276,7 +276,7 @@ pub const LETTERS: [u8; 256] = [
 ];
 
 // The most words of a part of a list that is put into a hash table.
-const MAX_PART: usize = 65535;
+const MAX_PART: usize = 100000;
 
 // What the letter table folds a byte to, 0 for a separator.
 pub fn letter(b: u8) -> u8
@@ -435,31 +435,74 @@ fn skip_words(table: &[u8], text: &[u8], at: usize, size: usize) -> usize
     start
 }
 
-// Puts the words from an offset of a list on, so many, into an empty hash table.
+// Empties the buckets of a hash table.
+fn clear(heads: &mut [u32])
+    ensures { λ _. ⌜ ((b : ℕ) → b < length (now (heads .entry)) → getD (now (heads .exit)) b 0 ≡ 0) ⌝ }
+{
+    let mut bucket = 0;
+    while bucket < heads.len() {
+        heads[bucket] = 0;
+        bucket += 1;
+    }
+}
+
+// Notes where each of so many words from an offset of a list on begins.
+fn note_starts(table: &[u8], list: &[u8], from: usize, count: usize, starts: &mut [usize])
+    requires { ⌜ (isTable (now table) ≡ true) × Begins (now table) (now list) from × (count ≤ maxPart) × (count ≤ length (wordsAt (now table) (now list) from)) × (length (now starts) ≡ maxPart) ⌝ }
+    ensures { λ _. ⌜ Starts (now (table .entry)) (now (list .entry)) from count (now (starts .exit)) ⌝ }
+{
+    let mut at = from;
+    let mut word: usize = 0;
+    while word < count {
+        starts[word] = at;
+        let scan = scan_word(table, list, at);
+        let end = scan.end;
+        at = word_start(table, list, end);
+        word += 1;
+    }
+}
+
+// Puts so many words of a list, whose starts are noted, into an empty hash table: the last one first,
+// so that a bucket has its words in their order.
+fn chain(
+    table: &[u8],
+    list: &[u8],
+    from: usize,
+    count: usize,
+    heads: &mut [u32],
+    links: &mut [u32],
+    starts: &[usize],
+)
+    requires { ⌜ (isTable (now table) ≡ true) × (count ≤ maxPart) × Starts (now table) (now list) from count (now starts) × Chains (now table) (now list) from count count (now heads) (now links) ⌝ }
+    ensures { λ _. ⌜ Chains (now (table .entry)) (now (list .entry)) from count 0 (now (heads .exit)) (now (links .exit)) ⌝ }
+{
+    let mut word = count;
+    while 0 < word {
+        let start = starts[word - 1];
+        let scan = scan_word(table, list, start);
+        let bucket = scan.bucket;
+        links[word - 1] = heads[bucket];
+        heads[bucket] = word as u32;
+        word -= 1;
+    }
+}
+
+// Makes the hash table of so many words from an offset of a list on.
 fn build(
     table: &[u8],
     list: &[u8],
     from: usize,
     count: usize,
-    heads: &mut [u16],
-    links: &mut [u16],
+    heads: &mut [u32],
+    links: &mut [u32],
     starts: &mut [usize],
 )
-    requires { ⌜ (isTable (now table) ≡ true) × Begins (now table) (now list) from × (count ≤ maxPart) × (count ≤ length (wordsAt (now table) (now list) from)) × (now heads ≡ replicate buckets 0) × (length (now links) ≡ maxPart) × (length (now starts) ≡ maxPart) ⌝ }
+    requires { ⌜ (isTable (now table) ≡ true) × Begins (now table) (now list) from × (count ≤ maxPart) × (count ≤ length (wordsAt (now table) (now list) from)) × Room (now heads) (now links) (now starts) ⌝ }
     ensures { λ _. ⌜ Part (now (table .entry)) (now (list .entry)) from count (now (heads .exit)) (now (links .exit)) (now (starts .exit)) ⌝ }
 {
-    let mut at = from;
-    let mut word: usize = 0;
-    while word < count {
-        let scan = scan_word(table, list, at);
-        let bucket = scan.bucket;
-        let end = scan.end;
-        links[word] = heads[bucket];
-        heads[bucket] = (word + 1) as u16;
-        starts[word] = at;
-        at = word_start(table, list, end);
-        word += 1;
-    }
+    clear(heads);
+    note_starts(table, list, from, count, starts);
+    chain(table, list, from, count, heads, links, starts);
 }
 
 // Looks a word of a text up in a part of a list: 1 and its number there, 0 where it is not.
@@ -468,8 +511,8 @@ fn find(
     list: &[u8],
     from: usize,
     count: usize,
-    heads: &[u16],
-    links: &[u16],
+    heads: &[u32],
+    links: &[u32],
     starts: &[usize],
     text: &[u8],
     at: usize,
@@ -495,8 +538,8 @@ fn count_found(
     list: &[u8],
     from: usize,
     count: usize,
-    heads: &[u16],
-    links: &[u16],
+    heads: &[u32],
+    links: &[u32],
     starts: &[usize],
     text: &[u8],
     at: usize,
@@ -533,39 +576,31 @@ fn count_found(
     found
 }
 
-// The same, with the hash table of the part made for it.
+// The same, with the hash table of the part made in the slices that are lent.
 fn count_in_part(
     table: &[u8],
     list: &[u8],
     from: usize,
     count: usize,
+    heads: &mut [u32],
+    links: &mut [u32],
+    starts: &mut [usize],
     text: &[u8],
     at: usize,
     size: usize,
 ) -> usize
-    requires { ⌜ (isTable (now table) ≡ true) × Begins (now table) (now list) from × (count ≤ maxPart) × (count ≤ length (wordsAt (now table) (now list) from)) × Begins (now table) (now text) at × (size ≤ length (wordsAt (now table) (now text) at)) ⌝ }
+    requires { ⌜ (isTable (now table) ≡ true) × Begins (now table) (now list) from × (count ≤ maxPart) × (count ≤ length (wordsAt (now table) (now list) from)) × Begins (now table) (now text) at × (size ≤ length (wordsAt (now table) (now text) at)) × Room (now heads) (now links) (now starts) ⌝ }
     ensures { λ r. ⌜ r ≡ countIn (now (table .entry)) (now (list .entry)) from count (take size (wordsAt (now (table .entry)) (now (text .entry)) at)) ⌝ }
 {
-    let mut heads = [0u16; 65536];
-    let mut links = [0u16; 65535];
-    let mut starts = [0usize; 65535];
-    build(
-        table,
-        list,
-        from,
-        count,
-        &mut heads,
-        &mut links,
-        &mut starts,
-    );
+    build(table, list, from, count, heads, links, starts);
     count_found(
         table,
         list,
         from,
         count,
-        &heads,
-        &links,
-        &starts,
+        heads,
+        links,
+        starts,
         text,
         at,
         size,
@@ -577,11 +612,14 @@ fn count_listed(
     table: &[u8],
     list: &[u8],
     words: usize,
+    heads: &mut [u32],
+    links: &mut [u32],
+    starts: &mut [usize],
     text: &[u8],
     at: usize,
     size: usize,
 ) -> usize
-    requires { ⌜ (isTable (now table) ≡ true) × (words ≡ length (spellings (now table) (now list))) × (distinct (spellings (now table) (now list)) ≡ true) × Begins (now table) (now text) at × (size ≤ length (wordsAt (now table) (now text) at)) ⌝ }
+    requires { ⌜ (isTable (now table) ≡ true) × (words ≡ length (spellings (now table) (now list))) × (distinct (spellings (now table) (now list)) ≡ true) × Begins (now table) (now text) at × (size ≤ length (wordsAt (now table) (now text) at)) × Room (now heads) (now links) (now starts) ⌝ }
     ensures { λ r. ⌜ r ≡ countListed (spellings (now (table .entry)) (now (list .entry))) (take size (wordsAt (now (table .entry)) (now (text .entry)) at)) ⌝ }
 {
     let mut from = word_start(table, list, 0);
@@ -589,7 +627,18 @@ fn count_listed(
     let mut found: usize = 0;
     while first < words {
         let count = base::least(words - first, MAX_PART);
-        found += count_in_part(table, list, from, count, text, at, size);
+        found += count_in_part(
+            table,
+            list,
+            from,
+            count,
+            heads,
+            links,
+            starts,
+            text,
+            at,
+            size,
+        );
         from = skip_words(table, list, from, count);
         first += count;
     }
@@ -598,18 +647,27 @@ fn count_listed(
 
 // The offset of the first word of a text of so many words that is not in a list; the text's length
 // where all are. A range that has such a word is halved until it is that word.
-fn first_unlisted(table: &[u8], list: &[u8], words: usize, text: &[u8], size: usize) -> usize
-    requires { ⌜ (isTable (now table) ≡ true) × (words ≡ length (spellings (now table) (now list))) × (distinct (spellings (now table) (now list)) ≡ true) × (size ≡ length (textWords (now table) (now text))) ⌝ }
+fn first_unlisted(
+    table: &[u8],
+    list: &[u8],
+    words: usize,
+    heads: &mut [u32],
+    links: &mut [u32],
+    starts: &mut [usize],
+    text: &[u8],
+    size: usize,
+) -> usize
+    requires { ⌜ (isTable (now table) ≡ true) × (words ≡ length (spellings (now table) (now list))) × (distinct (spellings (now table) (now list)) ≡ true) × (size ≡ length (textWords (now table) (now text))) × Room (now heads) (now links) (now starts) ⌝ }
     ensures { λ r. ⌜ r ≡ firstMissing (spellings (now (table .entry)) (now (list .entry))) (length (now (text .entry))) (textWords (now (table .entry)) (now (text .entry))) ⌝ }
 {
     let mut at = word_start(table, text, 0);
-    if count_listed(table, list, words, text, at, size) == size {
+    if count_listed(table, list, words, heads, links, starts, text, at, size) == size {
         return text.len();
     }
     let mut left = size;
     while 1 < left {
         let half = left / 2;
-        if count_listed(table, list, words, text, at, half) == half {
+        if count_listed(table, list, words, heads, links, starts, text, at, half) == half {
             at = skip_words(table, text, at, half);
             left -= half;
         } else {
@@ -626,8 +684,8 @@ fn is_unrepeated(
     list: &[u8],
     from: usize,
     count: usize,
-    heads: &[u16],
-    links: &[u16],
+    heads: &[u32],
+    links: &[u32],
     starts: &[usize],
     size: usize,
 ) -> bool
@@ -663,36 +721,50 @@ fn is_unrepeated(
     true
 }
 
-// The same, with the hash table of the part made for it.
-fn is_part_unrepeated(table: &[u8], list: &[u8], from: usize, count: usize, size: usize) -> bool
-    requires { ⌜ (isTable (now table) ≡ true) × Begins (now table) (now list) from × (count ≤ maxPart) × (count ≤ length (wordsAt (now table) (now list) from)) × (size ≤ length (wordsAt (now table) (now list) from)) ⌝ }
+// The same, with the hash table of the part made in the slices that are lent.
+fn is_part_unrepeated(
+    table: &[u8],
+    list: &[u8],
+    from: usize,
+    count: usize,
+    heads: &mut [u32],
+    links: &mut [u32],
+    starts: &mut [usize],
+    size: usize,
+) -> bool
+    requires { ⌜ (isTable (now table) ≡ true) × Begins (now table) (now list) from × (count ≤ maxPart) × (count ≤ length (wordsAt (now table) (now list) from)) × (size ≤ length (wordsAt (now table) (now list) from)) × Room (now heads) (now links) (now starts) ⌝ }
     ensures { λ r. ⌜ r ≡ isUnrepeated (now (table .entry)) (now (list .entry)) from count size ⌝ }
 {
-    let mut heads = [0u16; 65536];
-    let mut links = [0u16; 65535];
-    let mut starts = [0usize; 65535];
-    build(
-        table,
-        list,
-        from,
-        count,
-        &mut heads,
-        &mut links,
-        &mut starts,
-    );
-    is_unrepeated(table, list, from, count, &heads, &links, &starts, size)
+    build(table, list, from, count, heads, links, starts);
+    is_unrepeated(table, list, from, count, heads, links, starts, size)
 }
 
 // Whether no word of a list is there twice, part by part.
-fn is_distinct(table: &[u8], list: &[u8], words: usize) -> bool
-    requires { ⌜ (isTable (now table) ≡ true) × (words ≡ length (spellings (now table) (now list))) ⌝ }
+fn is_distinct(
+    table: &[u8],
+    list: &[u8],
+    words: usize,
+    heads: &mut [u32],
+    links: &mut [u32],
+    starts: &mut [usize],
+) -> bool
+    requires { ⌜ (isTable (now table) ≡ true) × (words ≡ length (spellings (now table) (now list))) × Room (now heads) (now links) (now starts) ⌝ }
     ensures { λ r. ⌜ r ≡ distinct (spellings (now (table .entry)) (now (list .entry))) ⌝ }
 {
     let mut from = word_start(table, list, 0);
     let mut first: usize = 0;
     while first < words {
         let count = base::least(words - first, MAX_PART);
-        if !is_part_unrepeated(table, list, from, count, words - first) {
+        if !is_part_unrepeated(
+            table,
+            list,
+            from,
+            count,
+            heads,
+            links,
+            starts,
+            words - first,
+        ) {
             return false;
         }
         from = skip_words(table, list, from, count);
@@ -718,8 +790,8 @@ fn write_found(
     list: &[u8],
     from: usize,
     count: usize,
-    heads: &[u16],
-    links: &[u16],
+    heads: &[u32],
+    links: &[u32],
     starts: &[usize],
     first: usize,
     text: &[u8],
@@ -753,40 +825,32 @@ fn write_found(
     }
 }
 
-// The same, with the hash table of the part made for it.
+// The same, with the hash table of the part made in the slices that are lent.
 fn write_part(
     table: &[u8],
     list: &[u8],
     from: usize,
     count: usize,
+    heads: &mut [u32],
+    links: &mut [u32],
+    starts: &mut [usize],
     first: usize,
     text: &[u8],
     size: usize,
     ranks: &mut [u32],
 )
-    requires { ⌜ (isTable (now table) ≡ true) × Begins (now table) (now list) from × (count ≤ maxPart) × (count ≤ length (wordsAt (now table) (now list) from)) × (first + count ≤ 4294967295) × (size ≡ length (textWords (now table) (now text))) × (size ≤ length (now ranks)) ⌝ }
+    requires { ⌜ (isTable (now table) ≡ true) × Begins (now table) (now list) from × (count ≤ maxPart) × (count ≤ length (wordsAt (now table) (now list) from)) × (first + count ≤ 4294967295) × (size ≡ length (textWords (now table) (now text))) × (size ≤ length (now ranks)) × Room (now heads) (now links) (now starts) ⌝ }
     ensures { λ _. ⌜ Ranked (now (table .entry)) (now (list .entry)) from count first (textWords (now (table .entry)) (now (text .entry))) (now (ranks .entry)) (now (ranks .exit)) ⌝ }
 {
-    let mut heads = [0u16; 65536];
-    let mut links = [0u16; 65535];
-    let mut starts = [0usize; 65535];
-    build(
-        table,
-        list,
-        from,
-        count,
-        &mut heads,
-        &mut links,
-        &mut starts,
-    );
+    build(table, list, from, count, heads, links, starts);
     write_found(
         table,
         list,
         from,
         count,
-        &heads,
-        &links,
-        &starts,
+        heads,
+        links,
+        starts,
         first,
         text,
         size,
@@ -796,15 +860,37 @@ fn write_part(
 
 // Writes the ranks of the words of a text, all of them listed, to the front of a slice, part by
 // part. The rest stays.
-fn write_ranks(table: &[u8], list: &[u8], words: usize, text: &[u8], size: usize, ranks: &mut [u32])
-    requires { ⌜ Readable (now table) (now list) words (now text) size × (size ≤ length (now ranks)) ⌝ }
+fn write_ranks(
+    table: &[u8],
+    list: &[u8],
+    words: usize,
+    heads: &mut [u32],
+    links: &mut [u32],
+    starts: &mut [usize],
+    text: &[u8],
+    size: usize,
+    ranks: &mut [u32],
+)
+    requires { ⌜ Readable (now table) (now list) words (now text) size × (size ≤ length (now ranks)) × Room (now heads) (now links) (now starts) ⌝ }
     ensures { λ _. ⌜ now (ranks .exit) ≡ front (ranksIn (spellings (now (table .entry)) (now (list .entry))) (textWords (now (table .entry)) (now (text .entry)))) (now (ranks .entry)) ⌝ }
 {
     let mut from = word_start(table, list, 0);
     let mut first: usize = 0;
     while first < words {
         let count = base::least(words - first, MAX_PART);
-        write_part(table, list, from, count, first, text, size, ranks);
+        write_part(
+            table,
+            list,
+            from,
+            count,
+            heads,
+            links,
+            starts,
+            first,
+            text,
+            size,
+            ranks,
+        );
         from = skip_words(table, list, from, count);
         first += count;
     }
@@ -833,14 +919,36 @@ pub fn read_text_by(table: &[u8], list: &[u8], text: &[u8], ranks: &mut [u32]) -
     if !is_written(table, list) {
         return Answer::refused(refusal::WORD_LIST);
     }
-    if !is_distinct(table, list, words) {
+    let mut heads = [0u32; 65536];
+    let mut links = [0u32; 100000];
+    let mut starts = [0usize; 100000];
+    if !is_distinct(table, list, words, &mut heads, &mut links, &mut starts) {
         return Answer::refused(refusal::WORD_LIST);
     }
-    let unlisted = first_unlisted(table, list, words, text, size);
+    let unlisted = first_unlisted(
+        table,
+        list,
+        words,
+        &mut heads,
+        &mut links,
+        &mut starts,
+        text,
+        size,
+    );
     if unlisted < text.len() {
         return Answer::refused_at(refusal::UNLISTED, unlisted);
     }
-    write_ranks(table, list, words, text, size, ranks);
+    write_ranks(
+        table,
+        list,
+        words,
+        &mut heads,
+        &mut links,
+        &mut starts,
+        text,
+        size,
+        ranks,
+    );
     Answer::accepted(size)
 }
 

@@ -9,27 +9,27 @@ use lib.ListN.{length, drop, getD}
 use Rattle.lexicon.proofs.Listed.{words-left, unrepeated-more, repeated, unrepeated-which, stands-first, stands-more}
 use Rattle.lexicon.proofs.Members.{distinct-of}
 use Rattle.lexicon.proofs.Scans.{begins}
-use Rattle.lexicon.specs.Parts.{maxPart}
+use Rattle.lexicon.specs.Parts.{maxPart, Room}
 use Rattle.lexicon.specs.Reading.{textWords}
 use Rattle.lexicon.specs.Scans.{wordsAt, spellings, Begins}
 use Rattle.lexicon.proofs.is_distinct.Statement.{statement}
 use Rattle.lexicon.proofs.is_distinct.Tie as tie
 
 abbrev Inv-loop : tie.InvT-loop
-Inv-loop table list words from₀ first₀ from first =
+Inv-loop table list words heads₀ links₀ starts₀ from₀ first₀ heads links starts from first =
     (first ≤ words) × Begins table list from × (wordsAt table list from ≡ drop first (textWords table list))
-    × ((i j : ℕ) → i < first → i < j → j < length (spellings table list) → getD (spellings table list) i [] ≡ getD (spellings table list) j [] → ⊥)
+    × ((i j : ℕ) → i < first → i < j → j < length (spellings table list) → getD (spellings table list) i [] ≡ getD (spellings table list) j [] → ⊥) × Room heads links starts
 
 abbrev μ-loop : tie.MeasureT-loop
-μ-loop table list words from₀ first₀ from first = words - first
+μ-loop table list words heads₀ links₀ starts₀ from₀ first₀ heads links starts from first = words - first
 
 -- the part is inside the list
 inside-of : (c : tie.After-least Inv-loop μ-loop)
-    → (c .least .result ≤ maxPart) × (c .least .result ≤ c .before .before .before .before .before .before .args .words - c .before .before .loop .first)
-    × (length (wordsAt (c .before .before .before .before .before .before .args .table .now) (c .before .before .before .before .before .before .args .list .now) (c .before .before .loop .from)) ≡ c .before .before .before .before .before .before .args .words - c .before .before .loop .first)
-    × (c .before .before .loop .first + (c .before .before .before .before .before .before .args .words - c .before .before .loop .first) ≡ length (spellings (c .before .before .before .before .before .before .args .table .now) (c .before .before .before .before .before .before .args .list .now)))
+    → (c .least .result ≤ maxPart) × (c .least .result ≤ c .before .before .before .before .before .before .before .before .before .args .words - c .before .before .loop .first)
+    × (length (wordsAt (c .before .before .before .before .before .before .before .before .before .args .table .now) (c .before .before .before .before .before .before .before .before .before .args .list .now) (c .before .before .loop .from)) ≡ c .before .before .before .before .before .before .before .before .before .args .words - c .before .before .loop .first)
+    × (c .before .before .loop .first + (c .before .before .before .before .before .before .before .before .before .args .words - c .before .before .loop .first) ≡ length (spellings (c .before .before .before .before .before .before .before .before .before .args .table .now) (c .before .before .before .before .before .before .before .before .before .args .list .now)))
 inside-of c =
-    let start = c .before .before .before .before .before .before in
+    let start = c .before .before .before .before .before .before .before .before .before in
     let a = start .args in
     let loop = c .before .before .loop in
     let l = words-left (a .table .now) (a .list .now) (loop .from) (loop .first) (loop .inv .2) in
@@ -37,14 +37,15 @@ inside-of c =
     (omega (arith, c .least .ensures), omega (arith, c .least .ensures), omega (arith, start .pre .1), omega (arith, start .pre .1))
 
 word-start-requires : tie.Need-word-start-requires Inv-loop μ-loop
-word-start-requires c κs = (c .before .before .pre .0, omega arith)
+word-start-requires c κs = (c .before .before .before .before .before .pre .0, omega arith)
 
 loop-holds : tie.Need-loop-holds Inv-loop μ-loop
-loop-holds c = let a = c .before .before .before .args in (
+loop-holds c = let a = c .before .before .before .before .before .before .args in (
   omega arith,
   rw (c .word-start .ensures) (begins (a .table .now) (a .list .now) 0 (omega arith)),
   rw (c .word-start .ensures) (stands-first (a .table .now) (a .list .now)),
   λ i j (h : i < 0) l m q. omega arith,
+  c .before .before .before .before .before .before .pre .2,
 )
 
 sub-least : tie.Need-sub-least Inv-loop μ-loop
@@ -54,46 +55,65 @@ least-requires : tie.Need-least-requires Inv-loop μ-loop
 least-requires c κs = search needs
 
 sub-is-part-unrepeated : tie.Need-sub-is-part-unrepeated Inv-loop μ-loop
-sub-is-part-unrepeated c = omega (arith, c .before .loop-test .taken)
+sub-is-part-unrepeated c = omega (arith, c .before .before .before .before .loop-test .taken)
 
 is-part-unrepeated-requires : tie.Need-is-part-unrepeated-requires Inv-loop μ-loop
-is-part-unrepeated-requires c κs = let start = c .before .before .before .before .before .before in
-    let i = inside-of c in
-    (start .pre .0, c .before .before .loop .inv .1, i .0, omega (arith, i .1, i .2), omega (arith, i .2))
+is-part-unrepeated-requires c κs = let start = c .before .before .before .before .before .before .before .before .before .before .before .before in
+    let i = inside-of (c .before .before .before) in
+    (start .pre .0, c .before .before .before .before .before .loop .inv .1, i .0, omega (arith, i .1, i .2), omega (arith, i .2), c .before .before .before .before .before .loop .inv .4)
 
 returns : tie.Need-returns Inv-loop μ-loop
-returns c = let a = c .before .before .before .before .before .before .before .before .args in
-    let loop = c .before .before .before .before .loop in
-    let i = inside-of (c .before .before) in
-    let w = unrepeated-which (a .table .now) (a .list .now) (loop .from) (c .before .before .least .result) (a .words - loop .first) (sym (c .before .is-part-unrepeated .ensures) ∙ not-true (c .before .is-part-unrepeated .result) (c .if1 .taken)) in
-    sym (repeated (a .table .now) (a .list .now) (loop .from) (loop .first) (loop .inv .2) (c .before .before .least .result) (a .words - loop .first) _ (i .3) (i .1) (w .0) (w .1))
+returns c = let a = c .before .before .before .before .before .before .before .before .before .before .before .before .before .before .before .before .before .before .before .before .args in
+    let loop = c .before .before .before .before .before .before .before .before .before .before .before .before .before .loop in
+    let i = inside-of (c .before .before .before .before .before .before .before .before .before .before .before) in
+    let w = unrepeated-which (a .table .now) (a .list .now) (loop .from) (c .before .before .before .before .before .before .before .before .before .before .before .least .result) (a .words - loop .first) (sym (c .before .before .before .before .before .before .before .is-part-unrepeated .ensures) ∙ not-true (c .before .before .before .before .before .before .before .is-part-unrepeated .result) (c .if1 .taken)) in
+    sym (repeated (a .table .now) (a .list .now) (loop .from) (loop .first) (loop .inv .2) (c .before .before .before .before .before .before .before .before .before .before .before .least .result) (a .words - loop .first) _ (i .3) (i .1) (w .0) (w .1))
 
 skip-words-requires : tie.Need-skip-words-requires Inv-loop μ-loop
-skip-words-requires c κs = let i = inside-of (c .before .before) in
-    (c .before .before .before .before .before .before .before .before .pre .0, c .before .before .before .before .loop .inv .1, omega (arith, i .1, i .2))
+skip-words-requires c κs = let i = inside-of (c .before .before .before .before .before .before .before .before .before .before .before) in
+    (c .before .before .before .before .before .before .before .before .before .before .before .before .before .before .before .before .before .before .before .before .pre .0, c .before .before .before .before .before .before .before .before .before .before .before .before .before .loop .inv .1, omega (arith, i .1, i .2))
 
 add-first : tie.Need-add-first Inv-loop μ-loop
-add-first c = omega (arith, inside-of (c .before .before .before) .1, c .before .before .before .before .loop-test .taken)
+add-first c = omega (arith, inside-of (c .before .before .before .before .before .before .before .before .before .before .before .before) .1, c .before .before .before .before .before .before .before .before .before .before .before .before .before .loop-test .taken)
 
 loop-less : tie.Need-loop-less Inv-loop μ-loop
-loop-less c = omega (arith, c .before .before .before .least .ensures, c .before .before .before .before .loop-test .taken)
+loop-less c = omega (arith, c .before .before .before .before .before .before .before .before .before .before .before .before .least .ensures, c .before .before .before .before .before .before .before .before .before .before .before .before .before .loop-test .taken)
 
 loop-again : tie.Need-loop-again Inv-loop μ-loop
-loop-again c = let a = c .before .before .before .before .before .before .before .before .before .args in
-    let loop = c .before .before .before .before .before .loop in
-    let i = inside-of (c .before .before .before) in (
-      omega (arith, i .1, c .before .before .before .before .loop-test .taken),
+loop-again c = let a = c .before .before .before .before .before .before .before .before .before .before .before .before .before .before .before .before .before .before .before .before .before .args in
+    let loop = c .before .before .before .before .before .before .before .before .before .before .before .before .before .before .loop in
+    let i = inside-of (c .before .before .before .before .before .before .before .before .before .before .before .before) in (
+      omega (arith, i .1, c .before .before .before .before .before .before .before .before .before .before .before .before .before .loop-test .taken),
       c .skip-words .ensures .0,
-      stands-more (a .table .now) (a .list .now) (loop .from) (loop .first) (c .skip-words .result) (c .before .before .before .least .result) (loop .inv .2) (c .skip-words .ensures .1),
-      unrepeated-more (a .table .now) (a .list .now) (loop .from) (loop .first) (loop .inv .2) (c .before .before .before .least .result) (a .words - loop .first) (i .3) (i .1)
-          (sym (c .before .before .is-part-unrepeated .ensures) ∙ not-false (c .before .before .is-part-unrepeated .result) (c .before .if1 .left)) (loop .inv .3),
+      stands-more (a .table .now) (a .list .now) (loop .from) (loop .first) (c .skip-words .result) (c .before .before .before .before .before .before .before .before .before .before .before .before .least .result) (loop .inv .2) (c .skip-words .ensures .1),
+      unrepeated-more (a .table .now) (a .list .now) (loop .from) (loop .first) (loop .inv .2) (c .before .before .before .before .before .before .before .before .before .before .before .before .least .result) (a .words - loop .first) (i .3) (i .1)
+          (sym (c .before .before .before .before .before .before .before .before .is-part-unrepeated .ensures) ∙ not-false (c .before .before .before .before .before .before .before .before .is-part-unrepeated .result) (c .before .if1 .left)) (loop .inv .3),
+      search needs,
     )
 
 returns-2 : tie.Need-returns-2 Inv-loop μ-loop
-returns-2 c = let start = c .before .before .before .before .before in
+returns-2 c = let start = c .before .before .before .before .before .before .before .before in
     let a = start .args in
     let loop = c .before .loop in
     sym (distinct-of (spellings (a .table .now) (a .list .now)) (λ i j l m. loop .inv .3 i j (omega (arith, start .pre .1, c .loop-test .left, l, m)) l m))
+
+same-length : tie.Need-same-length Inv-loop μ-loop
+same-length c = search needs
+
+same-length-2 : tie.Need-same-length-2 Inv-loop μ-loop
+same-length-2 c = search needs
+
+same-length-3 : tie.Need-same-length-3 Inv-loop μ-loop
+same-length-3 c = search needs
+
+same-length-4 : tie.Need-same-length-4 Inv-loop μ-loop
+same-length-4 c = search needs
+
+same-length-5 : tie.Need-same-length-5 Inv-loop μ-loop
+same-length-5 c = search needs
+
+same-length-6 : tie.Need-same-length-6 Inv-loop μ-loop
+same-length-6 c = search needs
 
 pub is-distinct-spec : {M : Type 1} → statement M
 is-distinct-spec =
@@ -107,9 +127,15 @@ is-distinct-spec =
     least-requires
     sub-is-part-unrepeated
     is-part-unrepeated-requires
+    same-length
+    same-length-2
+    same-length-3
     returns
     skip-words-requires
     add-first
     loop-less
     loop-again
+    same-length-4
+    same-length-5
+    same-length-6
     returns-2)

@@ -3,7 +3,6 @@ use Prim.Native.Nat.{ℕ, _+_, _-_, _≤_, _<_}
 use mathlib.Core.Path.{_≡_, refl, sym, ap, _∙_}
 use mathlib.Core.Bool.{true}
 use mathlib.Core.Logic.{⊎-elim}
-use native.Mathlib.Numerals.{add-one}
 use native.Mathlib.Omega.{arith}
 use borrow.Author.Needs.{needs}
 use borrow.Author.Count.{below-more}
@@ -63,7 +62,7 @@ returns : tie.Need-returns Inv-loop μ-loop
 returns c = let a = c .before .before .before .before .before .before .before .before .before .before .before .args in
     let loop = c .before .before .before .before .before .loop in
     sym (unrepeated-not (a .table .now) (a .list .now) (a .from) (a .count) (a .size) (loop .word) (c .before .before .before .before .loop-test .taken)
-    (own-not (a .table .now) (a .list .now) (a .from) (a .count) (loop .word) (rw (← found-of (c .before .before)) (c .before .if1 .taken)) (λ q. c .if2 .taken (found-of (c .before .before) ∙ q ∙ sym (add-one (loop .word))))))
+    (own-not (a .table .now) (a .list .now) (a .from) (a .count) (loop .word) (rw (← found-of (c .before .before)) (c .before .if1 .taken)) (λ q. omega (arith, c .if2 .taken, found-of (c .before .before), q))))
 
 word-start-requires : tie.Need-word-start-requires Inv-loop μ-loop
 word-start-requires c κs = (c .before .before .before .before .before .before .before .before .before .before .pre .0, rw (c .before .before .scan-word .ensures .0) (next-of (c .before .before .before) .inside))
@@ -81,7 +80,7 @@ loop-again c = let a = c .before .before .before .before .before .before .before
       ap (wordsAt (a .table .now) (a .list .now)) (stepped c) ∙ left-next (wordsAt (a .table .now) (a .list .now) (a .from)) _ _ _ (loop .word) (loop .inv .2) (n .words),
       below-more _ (loop .word) (loop .inv .3)
           (⊎-elim
-          (λ w. own-here (a .table .now) (a .list .now) (a .from) (a .count) (loop .word) (sym f ∙ w .1 .left ∙ add-one (loop .word)))
+          (λ w. own-here (a .table .now) (a .list .now) (a .from) (a .count) (loop .word) (omega (arith, f, w .1 .left)))
           (λ w. own-none (a .table .now) (a .list .now) (a .from) (a .count) (loop .word) (sym f ∙ none (c .before .before .find .result) (w .left)))
           (c .before .if1 .came)),
     )

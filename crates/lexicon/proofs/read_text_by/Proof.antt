@@ -41,26 +41,26 @@ written-of c = sym (c .before .is-written .ensures) ∙ not-false (c .before .is
 sized-of : (c : tie.Else5) → c .before .before .before .before .before .before .before .list-size .result ≡ length (spellings (c .before .before .before .before .before .before .before .before .before .before .before .before .args .table .now) (c .before .before .before .before .before .before .before .before .before .before .before .before .args .list .now))
 sized-of c = c .before .before .before .before .before .before .before .list-size .ensures ∙ list-sized (c .before .before .before .before .before .before .before .before .before .before .before .before .args .table .now) (c .before .before .before .before .before .before .before .before .before .before .before .before .pre) (c .before .before .before .before .before .before .before .before .before .before .before .before .args .list .now) (written-of c)
 
-once-of : (c : tie.Else6) → distinct (spellings (c .before .before .before .before .before .before .before .before .before .before .before .before .before .before .args .table .now) (c .before .before .before .before .before .before .before .before .before .before .before .before .before .before .args .list .now)) ≡ true
-once-of c = sym (c .before .is-distinct .ensures) ∙ not-false (c .before .is-distinct .result) (c .if6 .left)
+once-of : (c : tie.Else6) → distinct (spellings (c .before .before .before .before .before .before .before .before .before .before .before .before .before .before .before .before .before .before .before .before .args .table .now) (c .before .before .before .before .before .before .before .before .before .before .before .before .before .before .before .before .before .before .before .before .args .list .now)) ≡ true
+once-of c = sym (c .before .before .before .before .is-distinct .ensures) ∙ not-false (c .before .before .before .before .is-distinct .result) (c .if6 .left)
 
-rules-of : (c : tie.Else6) → isList (c .before .before .before .before .before .before .before .before .before .before .before .before .before .before .args .table .now) (c .before .before .before .before .before .before .before .before .before .before .before .before .before .before .args .list .now) ≡ true
-rules-of c = list-by-tests (c .before .before .before .before .before .before .before .before .before .before .before .before .before .before .args .table .now) (c .before .before .before .before .before .before .before .before .before .before .before .before .before .before .pre) (c .before .before .before .before .before .before .before .before .before .before .before .before .before .before .args .list .now) (written-of (c .before .before)) true (once-of c)
+rules-of : (c : tie.Else6) → isList (c .before .before .before .before .before .before .before .before .before .before .before .before .before .before .before .before .before .before .before .before .args .table .now) (c .before .before .before .before .before .before .before .before .before .before .before .before .before .before .before .before .before .before .before .before .args .list .now) ≡ true
+rules-of c = list-by-tests (c .before .before .before .before .before .before .before .before .before .before .before .before .before .before .before .before .before .before .before .before .args .table .now) (c .before .before .before .before .before .before .before .before .before .before .before .before .before .before .before .before .before .before .before .before .pre) (c .before .before .before .before .before .before .before .before .before .before .before .before .before .before .before .before .before .before .before .before .args .list .now) (written-of (c .before .before .before .before .before .before .before .before)) true (once-of c)
 
 -- past all tests, the call is accepted
-listed-of : (c : tie.Else7) → allPass (isListed (c .before .before .before .before .before .before .before .before .before .before .before .before .before .before .before .before .args .list .now)) (textWords (c .before .before .before .before .before .before .before .before .before .before .before .before .before .before .before .before .args .table .now) (c .before .before .before .before .before .before .before .before .before .before .before .before .before .before .before .before .args .text .now)) ≡ true
+listed-of : (c : tie.Else7) → allPass (isListed (c .before .before .before .before .before .before .before .before .before .before .before .before .before .before .before .before .before .before .before .before .before .before .before .before .before .before .before .before .args .list .now)) (textWords (c .before .before .before .before .before .before .before .before .before .before .before .before .before .before .before .before .before .before .before .before .before .before .before .before .before .before .before .before .args .table .now) (c .before .before .before .before .before .before .before .before .before .before .before .before .before .before .before .before .before .before .before .before .before .before .before .before .before .before .before .before .args .text .now)) ≡ true
 listed-of c =
-    let a = c .before .before .before .before .before .before .before .before .before .before .before .before .before .before .before .before .args in
-    found-none (a .table .now) (c .before .before .before .before .before .before .before .before .before .before .before .before .before .before .before .before .pre) (a .list .now) (written-of (c .before .before .before .before)) (a .text .now) (rw (← c .before .first-unlisted .ensures) (c .if7 .left))
+    let a = c .before .before .before .before .before .before .before .before .before .before .before .before .before .before .before .before .before .before .before .before .before .before .before .before .before .before .before .before .args in
+    found-none (a .table .now) (c .before .before .before .before .before .before .before .before .before .before .before .before .before .before .before .before .before .before .before .before .before .before .before .before .before .before .before .before .pre) (a .list .now) (written-of (c .before .before .before .before .before .before .before .before .before .before .before .before .before .before .before .before)) (a .text .now) (rw (← c .before .before .before .before .first-unlisted .ensures) (c .if7 .left))
 
-accepts : (c : tie.Else7) → Accepts (c .before .before .before .before .before .before .before .before .before .before .before .before .before .before .before .before .args .table .now) (c .before .before .before .before .before .before .before .before .before .before .before .before .before .before .before .before .args .list .now) (c .before .before .before .before .before .before .before .before .before .before .before .before .before .before .before .before .args .text .now) (c .before .before .before .before .before .before .before .before .before .before .before .before .before .before .before .before .args .ranks .now)
+accepts : (c : tie.Else7) → Accepts (c .before .before .before .before .before .before .before .before .before .before .before .before .before .before .before .before .before .before .before .before .before .before .before .before .before .before .before .before .args .table .now) (c .before .before .before .before .before .before .before .before .before .before .before .before .before .before .before .before .before .before .before .before .before .before .before .before .before .before .before .before .args .list .now) (c .before .before .before .before .before .before .before .before .before .before .before .before .before .before .before .before .before .before .before .before .before .before .before .before .before .before .before .before .args .text .now) (c .before .before .before .before .before .before .before .before .before .before .before .before .before .before .before .before .before .before .before .before .before .before .before .before .before .before .before .before .args .ranks .now)
 accepts c =
     record {
-      someWord = range-inside 1 (maxVocabulary 128) _ (size-inside (c .before .before .before .before .before .before .before .before .before)) .0;
-      mostWords = range-inside 1 (maxVocabulary 128) _ (size-inside (c .before .before .before .before .before .before .before .before .before)) .1;
-      short = few-words (c .before .before .before .before .before .before .before);
-      room = has-room (c .before .before .before .before .before .before);
-      rules = rules-of (c .before .before);
+      someWord = range-inside 1 (maxVocabulary 128) _ (size-inside (c .before .before .before .before .before .before .before .before .before .before .before .before .before .before .before .before .before .before .before .before .before)) .0;
+      mostWords = range-inside 1 (maxVocabulary 128) _ (size-inside (c .before .before .before .before .before .before .before .before .before .before .before .before .before .before .before .before .before .before .before .before .before)) .1;
+      short = few-words (c .before .before .before .before .before .before .before .before .before .before .before .before .before .before .before .before .before .before .before);
+      room = has-room (c .before .before .before .before .before .before .before .before .before .before .before .before .before .before .before .before .before .before);
+      rules = rules-of (c .before .before .before .before .before .before .before .before);
       listed = listed-of c;
     }
 
@@ -120,47 +120,48 @@ returns-5 c = let a = c .before .before .before .before .before .before .before 
     (c .refused5 .result) (c .refused5 .ensures)
 
 is-distinct-requires : tie.Need-is-distinct-requires
-is-distinct-requires c κs = (c .before .before .before .before .before .before .before .before .before .before .before .before .pre, sized-of c)
+is-distinct-requires c κs = (c .before .before .before .before .before .before .before .before .before .before .before .before .before .before .before .pre, sized-of (c .before .before .before), search needs)
 
 refused-requires-6 : tie.Need-refused-requires-6
 refused-requires-6 c κs = tt
 
 returns-6 : tie.Need-returns-6
-returns-6 c = let a = c .before .before .before .before .before .before .before .before .before .before .before .before .before .before .before .args in
+returns-6 c = let a = c .before .before .before .before .before .before .before .before .before .before .before .before .before .before .before .before .before .before .before .before .before .args in
     read-refused (a .table .now) (a .list .now) (a .text .now) (a .ranks .now) 13 0 refl
-    (read-list (a .table .now) (a .list .now) (a .text .now) (a .ranks .now) (size-inside (c .before .before .before .before .before .before .before .before)) (few-words (c .before .before .before .before .before .before)) (has-room (c .before .before .before .before .before))
-    (list-by-tests (a .table .now) (c .before .before .before .before .before .before .before .before .before .before .before .before .before .before .before .pre) (a .list .now) (written-of (c .before .before .before)) false (sym (c .before .before .is-distinct .ensures) ∙ not-true (c .before .before .is-distinct .result) (c .before .if6 .taken))))
+    (read-list (a .table .now) (a .list .now) (a .text .now) (a .ranks .now) (size-inside (c .before .before .before .before .before .before .before .before .before .before .before .before .before .before)) (few-words (c .before .before .before .before .before .before .before .before .before .before .before .before)) (has-room (c .before .before .before .before .before .before .before .before .before .before .before))
+    (list-by-tests (a .table .now) (c .before .before .before .before .before .before .before .before .before .before .before .before .before .before .before .before .before .before .before .before .before .pre) (a .list .now) (written-of (c .before .before .before .before .before .before .before .before .before)) false (sym (c .before .before .before .before .before .is-distinct .ensures) ∙ not-true (c .before .before .before .before .before .is-distinct .result) (c .before .if6 .taken))))
     (c .refused6 .result) (c .refused6 .ensures)
 
 first-unlisted-requires : tie.Need-first-unlisted-requires
-first-unlisted-requires c κs = (c .before .before .before .before .before .before .before .before .before .before .before .before .before .before .pre, sized-of (c .before .before), once-of c, c .before .before .before .before .before .before .count-words .ensures)
+first-unlisted-requires c κs = (c .before .before .before .before .before .before .before .before .before .before .before .before .before .before .before .before .before .before .before .before .before .before .before .pre, sized-of (c .before .before .before .before .before .before .before .before .before .before .before), once-of (c .before .before .before), c .before .before .before .before .before .before .before .before .before .before .before .before .before .before .before .count-words .ensures, search needs)
 
 refused-at-requires : tie.Need-refused-at-requires
 refused-at-requires c κs = tt
 
 returns-7 : tie.Need-returns-7
-returns-7 c = let a = c .before .before .before .before .before .before .before .before .before .before .before .before .before .before .before .before .before .args in
-    let u = c .before .before .first-unlisted in
-    let n = found-unlisted (a .table .now) (c .before .before .before .before .before .before .before .before .before .before .before .before .before .before .before .before .before .pre) (a .list .now) (written-of (c .before .before .before .before .before)) (a .text .now) (rw (← u .ensures) (c .before .if7 .taken)) in
+returns-7 c = let a = c .before .before .before .before .before .before .before .before .before .before .before .before .before .before .before .before .before .before .before .before .before .before .before .before .before .before .before .before .before .args in
+    let u = c .before .before .before .before .before .first-unlisted in
+    let n = found-unlisted (a .table .now) (c .before .before .before .before .before .before .before .before .before .before .before .before .before .before .before .before .before .before .before .before .before .before .before .before .before .before .before .before .before .pre) (a .list .now) (written-of (c .before .before .before .before .before .before .before .before .before .before .before .before .before .before .before .before .before)) (a .text .now) (rw (← u .ensures) (c .before .if7 .taken)) in
     read-refused (a .table .now) (a .list .now) (a .text .now) (a .ranks .now) 14 (u .result) refl
-    (read-unlisted (a .table .now) (a .list .now) (a .text .now) (a .ranks .now) (size-inside (c .before .before .before .before .before .before .before .before .before .before)) (few-words (c .before .before .before .before .before .before .before .before)) (has-room (c .before .before .before .before .before .before .before)) (rules-of (c .before .before .before)) n
-    ∙ ap (refusedAt 14) (found-offset (a .table .now) (c .before .before .before .before .before .before .before .before .before .before .before .before .before .before .before .before .before .pre) (a .list .now) (written-of (c .before .before .before .before .before)) (a .text .now) n ∙ sym (u .ensures)))
+    (read-unlisted (a .table .now) (a .list .now) (a .text .now) (a .ranks .now) (size-inside (c .before .before .before .before .before .before .before .before .before .before .before .before .before .before .before .before .before .before .before .before .before .before)) (few-words (c .before .before .before .before .before .before .before .before .before .before .before .before .before .before .before .before .before .before .before .before)) (has-room (c .before .before .before .before .before .before .before .before .before .before .before .before .before .before .before .before .before .before .before)) (rules-of (c .before .before .before .before .before .before .before .before .before)) n
+    ∙ ap (refusedAt 14) (found-offset (a .table .now) (c .before .before .before .before .before .before .before .before .before .before .before .before .before .before .before .before .before .before .before .before .before .before .before .before .before .before .before .before .before .pre) (a .list .now) (written-of (c .before .before .before .before .before .before .before .before .before .before .before .before .before .before .before .before .before)) (a .text .now) n ∙ sym (u .ensures)))
     (c .refused-at .result) (c .refused-at .ensures)
 
 write-ranks-requires : tie.Need-write-ranks-requires
-write-ranks-requires c κs = let start = c .before .before .before .before .before .before .before .before .before .before .before .before .before .before .before .before .before in
+write-ranks-requires c κs = let start = c .before .before .before .before .before .before .before .before .before .before .before .before .before .before .before .before .before .before .before .before .before .before .before .before .before .before .before .before .before .before .before .before in
     let a = start .args in
-    let w = written-of (c .before .before .before .before .before) in
-    let e = c .before .before .before .before .before .before .before .before .before .count-words .ensures in (
+    let w = written-of (c .before .before .before .before .before .before .before .before .before .before .before .before .before .before .before .before .before .before .before .before) in
+    let e = c .before .before .before .before .before .before .before .before .before .before .before .before .before .before .before .before .before .before .before .before .before .before .before .before .count-words .ensures in (
       record {
         rule = start .pre;
-        all = sized-of (c .before .before .before .before .before);
-        most = c .before .before .before .before .before .before .before .before .before .before .if2 .left;
-        once = once-of (c .before .before .before);
+        all = sized-of (c .before .before .before .before .before .before .before .before .before .before .before .before .before .before .before .before .before .before .before .before);
+        most = c .before .before .before .before .before .before .before .before .before .before .before .before .before .before .before .before .before .before .before .before .before .before .before .before .before .if2 .left;
+        once = once-of (c .before .before .before .before .before .before .before .before .before .before .before .before);
         sized = e;
-        listed = λ p h. all-listed (a .table .now) (start .pre) (a .list .now) w (a .text .now) (listed-of (c .before)) p (rw (← e) h);
+        listed = λ p h. all-listed (a .table .now) (start .pre) (a .list .now) w (a .text .now) (listed-of (c .before .before .before .before)) p (rw (← e) h);
       },
-      c .before .before .before .before .before .before .before .if4 .left,
+      c .before .before .before .before .before .before .before .before .before .before .before .before .before .before .before .before .before .before .before .before .before .before .if4 .left,
+      search needs,
     )
 
 accepted-requires : tie.Need-accepted-requires
@@ -170,10 +171,37 @@ same-length : tie.Need-same-length
 same-length c = search needs
 
 returns-8 : tie.Need-returns-8
-returns-8 c = let a = c .before .before .before .before .before .before .before .before .before .before .before .before .before .before .before .before .before .before .before .before .before .args in
-    read-accepted (a .table .now) (a .list .now) (a .text .now) (a .ranks .now) (accepts (c .before .before .before .before .before)) (c .accepted .result) _
-    (c .accepted .ensures ∙ ap accepted (c .before .before .before .before .before .before .before .before .before .before .before .before .before .count-words .ensures))
-    (c .before .before .before .write-ranks .ensures ∙ ap (λ (xs : List ℕ). front xs (a .ranks .now)) (ranks-are (a .table .now) (c .before .before .before .before .before .before .before .before .before .before .before .before .before .before .before .before .before .before .before .before .before .pre) (a .list .now) (written-of (c .before .before .before .before .before .before .before .before .before)) (a .text .now)))
+returns-8 c = let a = c .before .before .before .before .before .before .before .before .before .before .before .before .before .before .before .before .before .before .before .before .before .before .before .before .before .before .before .before .before .before .before .before .before .before .before .before .before .before .before .args in
+    read-accepted (a .table .now) (a .list .now) (a .text .now) (a .ranks .now) (accepts (c .before .before .before .before .before .before .before .before .before .before .before)) (c .accepted .result) _
+    (c .accepted .ensures ∙ ap accepted (c .before .before .before .before .before .before .before .before .before .before .before .before .before .before .before .before .before .before .before .before .before .before .before .before .before .before .before .before .before .before .before .count-words .ensures))
+    (c .before .before .before .before .before .before .write-ranks .ensures ∙ ap (λ (xs : List ℕ). front xs (a .ranks .now)) (ranks-are (a .table .now) (c .before .before .before .before .before .before .before .before .before .before .before .before .before .before .before .before .before .before .before .before .before .before .before .before .before .before .before .before .before .before .before .before .before .before .before .before .before .before .before .pre) (a .list .now) (written-of (c .before .before .before .before .before .before .before .before .before .before .before .before .before .before .before .before .before .before .before .before .before .before .before .before .before .before .before)) (a .text .now)))
+
+slice-aggregate-is-distinct : tie.Need-slice-aggregate-is-distinct
+slice-aggregate-is-distinct c = refl
+
+slice-aggregate-is-distinct-2 : tie.Need-slice-aggregate-is-distinct-2
+slice-aggregate-is-distinct-2 c = refl
+
+slice-aggregate-is-distinct-3 : tie.Need-slice-aggregate-is-distinct-3
+slice-aggregate-is-distinct-3 c = refl
+
+slice-aggregate-first-unlisted : tie.Need-slice-aggregate-first-unlisted
+slice-aggregate-first-unlisted c = search needs
+
+slice-aggregate-first-unlisted-2 : tie.Need-slice-aggregate-first-unlisted-2
+slice-aggregate-first-unlisted-2 c = search needs
+
+slice-aggregate-first-unlisted-3 : tie.Need-slice-aggregate-first-unlisted-3
+slice-aggregate-first-unlisted-3 c = search needs
+
+slice-aggregate-write-ranks : tie.Need-slice-aggregate-write-ranks
+slice-aggregate-write-ranks c = search needs
+
+slice-aggregate-write-ranks-2 : tie.Need-slice-aggregate-write-ranks-2
+slice-aggregate-write-ranks-2 c = search needs
+
+slice-aggregate-write-ranks-3 : tie.Need-slice-aggregate-write-ranks-3
+slice-aggregate-write-ranks-3 c = search needs
 
 pub read-text-by-spec : {M : Type 1} → statement M
 read-text-by-spec =
@@ -192,12 +220,21 @@ read-text-by-spec =
     is-written-requires
     refused-requires-5
     returns-5
+    slice-aggregate-is-distinct
+    slice-aggregate-is-distinct-2
+    slice-aggregate-is-distinct-3
     is-distinct-requires
     refused-requires-6
     returns-6
+    slice-aggregate-first-unlisted
+    slice-aggregate-first-unlisted-2
+    slice-aggregate-first-unlisted-3
     first-unlisted-requires
     refused-at-requires
     returns-7
+    slice-aggregate-write-ranks
+    slice-aggregate-write-ranks-2
+    slice-aggregate-write-ranks-3
     write-ranks-requires
     accepted-requires
     same-length
