@@ -920,8 +920,8 @@ pub fn read_text_by(table: &[u8], list: &[u8], text: &[u8], ranks: &mut [u32]) -
         return Answer::refused(refusal::WORD_LIST);
     }
     let mut heads = [0u32; 65536];
-    let mut links = [0u32; 100000];
-    let mut starts = [0usize; 100000];
+    let mut links = [0u32; MAX_PART];
+    let mut starts = [0usize; MAX_PART];
     if !is_distinct(table, list, words, &mut heads, &mut links, &mut starts) {
         return Answer::refused(refusal::WORD_LIST);
     }
