@@ -242,14 +242,38 @@ static void libsdsl(const std::vector<uint32_t> &text, const Asked &asked, const
     });
 }
 
+// The engine's sheets of kinds 4 and 5 over an index whose counters take at most so many bytes, so that with the text, which the index is,
+// it takes no more than the inverted index and a copy of the text in codewords.
+static Answered within(size_t counters, const std::vector<uint32_t> &text, const Asked &asked, const Answered &answered) {
+    const uint32_t per = 8;
+    const size_t size = twin::stream_length(text);
+    const size_t counters_a_block = 256 * sizeof(uint16_t) + 256 * sizeof(uint32_t) / per;
+    const uint32_t block = (counters_a_block * size / counters / 16 + 1) * 16;
+    Engine engine{{vocabulary, block, per}, twin::sized(vocabulary, block, per, size)};
+    must(engine.build(text).refusal == 0, "build");
+    std::printf("the index at equal space: B %u, b %u, %.2f bytes a word\n", block, per, double(engine.a.space()) / text.size());
+    Answered again = answered;
+    for (int kind : {4, 5}) {
+        const auto &qs = asked.kinds[kind];
+        std::vector<uint32_t> pairs(2 * qs.size());
+        again.spent[kind] = seconds(runs, [&] { must(engine.sheet(asked.words, qs, pairs).refusal == 0, "sheet"); });
+        for (size_t i = 0; i < qs.size(); i++) must(pairs[2 * i] == 0 && pairs[2 * i + 1] == answered.values[kind][i], "sheet");
+    }
+    return again;
+}
+
 static void inverted(const std::vector<uint32_t> &text, const Asked &asked, const Answered &engine) {
     Inverted *index = nullptr;
     const double built = seconds(1, [&] { index = new Inverted(text, vocabulary); });
     std::printf("inverted index: built in %.3f s, %.2f bytes a word\n", built, double(index->space()) / text.size());
     using Question = concordance_question;
-    beside(text, asked, engine, 5, "phrases, 400 counts", "inverted index",
-           [&](const Question &q) { return index->phrase(&asked.words[q.start], q.length); });
-    beside(text, asked, engine, 4, sheet_of(4, asked), "inverted index", [&](const Question &q) { return index->neighbours(q.w, q.v, q.d); });
+    const auto phrase = [&](const Question &q) { return index->phrase(&asked.words[q.start], q.length); };
+    const auto neighbours = [&](const Question &q) { return index->neighbours(q.w, q.v, q.d); };
+    beside(text, asked, engine, 5, "phrases, 400 counts", "inverted index", phrase);
+    beside(text, asked, engine, 4, sheet_of(4, asked), "inverted index", neighbours);
+    const Answered equal = within(index->space(), text, asked, engine);
+    beside(text, asked, equal, 5, "phrases, 400 counts, at equal space", "inverted index", phrase);
+    beside(text, asked, equal, 4, sheet_of(4, asked) + ", at equal space", "inverted index", neighbours);
     delete index;
 }
 

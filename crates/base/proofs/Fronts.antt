@@ -5,7 +5,7 @@ use mathlib.Core.List.{List, _++_, append-assoc, [], _∷_, append-nil}
 use native.Mathlib.Omega.{arith}
 use native.Mathlib.Numerals.{add-one}
 use lib.ListN.{length, getD, take, drop, length-append, length-drop, take-append-drop, set}
-use lib.Seq.{slice, paste, length-paste-head, take-all, take-append-seam, drop-append-add, drop-drop, drop-cons, getD-at, sets, sets-eq, take-at, drop-at, drop-length, take-suc, length-take-le, getD-set-same, getD-set-other}
+use lib.Seq.{paste, length-paste-head, take-all, take-append-seam, drop-append-add, drop-drop, drop-cons, getD-at, sets, sets-eq, take-at, drop-at, drop-length, take-suc, length-take-le, getD-set-same, getD-set-other}
 use Rattle.base.specs.Answers.{front, written}
 use mathlib.Core.Logic.{_⊎_, inl, inr}
 use Rattle.base.proofs.Tests.{same-or-not}

@@ -31,11 +31,7 @@ module _ {ℓ} {A : Type ℓ} where
   all-imp P Q f [] a = tt
   all-imp P Q f (x ∷ xs) a = (f x (a .0), all-imp P Q f xs (a .1))
 
-  -- all elements of two lists are those of each
-  pub all-append : (P : A → Type 0) (xs ys : List A) → All P xs → All P ys → All P (xs ++ ys)
-  all-append P [] ys a b = b
-  all-append P (x ∷ xs) ys a b = (a .0, all-append P xs ys (a .1) b)
-
+  -- what holds of all elements of two lists holds of all of each
   pub all-front : (P : A → Type 0) (xs ys : List A) → All P (xs ++ ys) → All P xs
   all-front P [] ys a = tt
   all-front P (x ∷ xs) ys a = (a .0, all-front P xs ys (a .1))
@@ -159,8 +155,3 @@ getD-map f (x ∷ xs) (suc i) d d′ h = getD-map f xs i d d′ (omega arith)
 pub map-map {ℓ κ μ} : {A : Type ℓ} {B : Type κ} {C : Type μ} (f : B → C) (g : A → B) (xs : List A) → map f (map g xs) ≡ map (λ (x : A). f (g x)) xs
 map-map f g [] = refl
 map-map {C = C} f g (x ∷ xs) = ap (λ (r : List C). f (g x) ∷ r) (map-map f g xs)
-
--- images by two functions that agree on all elements that have P
-pub map-all {ℓ κ} : {A : Type ℓ} {B : Type κ} (P : A → Type 0) (f g : A → B) → ((x : A) → P x → f x ≡ g x) → (xs : List A) → All P xs → map f xs ≡ map g xs
-map-all P f g h [] a = refl
-map-all {B = B} P f g h (x ∷ xs) a = ap₂ {C = List B} (λ (y : B) (r : List B). y ∷ r) (h x (a .0)) (map-all P f g h xs (a .1))

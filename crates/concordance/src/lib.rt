@@ -3,8 +3,6 @@
 //
 // `include/concordance.h` declares them. A slice passes as a pointer and a length, and the structs
 // pass by value as C has them.
-mod sheets;
-
 ghost use mathlib.Core.Path.{_≡_};
 ghost use lib.ListN.{length};
 ghost use Rattle.dense.specs.Streams.{writeStreamAnswer, writeStreamExit, readStreamAnswer, readStreamExit};
@@ -15,7 +13,7 @@ ghost use Rattle.questions.specs.Passages.{passageAnswer, passageExit};
 ghost use Rattle.listing.specs.Paging.{opened, callOf, pageOf};
 ghost use Rattle.lexicon.specs.Letters.{letters};
 ghost use Rattle.lexicon.specs.Reading.{readTextAnswer, readTextExit};
-ghost use Rattle.concordance.specs.Sheets.{sheetAnswer, sheetExit};
+ghost use Rattle.sheets.specs.Sheets.{sheetAnswer, sheetExit};
 use base::Answer;
 use index::Shape;
 use listing::Listing;

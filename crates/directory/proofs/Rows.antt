@@ -1,22 +1,19 @@
 -- What the numbers of a directory say: of superblock row q, of block row r, and of the two together. Assumes nothing.
 use Prim.Native.Nat.{ℕ, suc, _+_, _*_, _/_, _≤_, _<_}
 use mathlib.Core.Path.{_≡_, sym, ap, _∙_}
-use mathlib.Core.Bool.{true, false, _||_}
-use mathlib.Core.List.{List, [], _∷_, flatten}
+use mathlib.Core.Bool.{true, false}
+use mathlib.Core.List.{List, [], flatten}
 use native.Mathlib.Nat.{le-trans, zero-div, div-mul-le-self, mul-le-mul-right, le-mul-of-pos-right, mul-pos, mul-assoc, mul-comm, add-mul, one-mul, suc-mul, mul-div-cancel, div-eq-of-lt-le}
 use native.Mathlib.Omega.{arith}
-use borrow.Author.Tests.{eqb-false, ltb-false}
-use lib.Dec.{eqb, ltb}
 use lib.ListN.{length, getD, take, drop, replicate, getD-replicate}
 use lib.Seq.{slice, ext-getD, take-nil, drop-nil}
 use Rattle.base.specs.Lists.{countOf, same}
-use Rattle.base.specs.Answers.{NoneHolds}
 use Rattle.base.specs.Texts.{maxSuperblock}
-use Rattle.base.proofs.Tests.{and-left, and-right, and-true, false-of, or-neither}
+use Rattle.base.proofs.Tests.{and-left, and-right, and-true, false-of}
 use Rattle.base.proofs.Lists.{same-yes, same-true}
 use Rattle.base.proofs.Counts.{count-slice}
 use Rattle.base.proofs.Ranges.{length-map-range, getD-map-range}
-use Rattle.directory.specs.Counters.{row, superblockRow, blockRow, superblockRows, blockRows, isDirectory, Directory, maxBytes, Sizes, blocksCase}
+use Rattle.directory.specs.Counters.{row, superblockRow, blockRow, superblockRows, blockRows, isDirectory, Directory, maxBytes, Sizes}
 use Rattle.directory.specs.Tables.{laid}
 use Rattle.base.proofs.Parts.{quotient-inside}
 use Rattle.directory.proofs.Laid.{laid-suc, laid-length, laid-at}
@@ -87,16 +84,6 @@ module _ {block per : ℕ} {bytes : List ℕ} (sizes : Sizes block per bytes) wh
         sizes .superblock-most,
         sizes .bytes-most,
       )
-
--- where no test of refusal 3 holds, B, b and S are within their limits
-pub sizes-of : (block per : ℕ) (bytes : List ℕ) → NoneHolds (blocksCase block per ∷ []) → length bytes ≤ maxBytes → Sizes block per bytes
-unfolding blocksCase
-sizes-of block per bytes n most =
-    let e = or-neither (eqb block 0 || eqb per 0) (ltb maxSuperblock (block * per)) (n .0) in
-    let d = or-neither (eqb block 0) (eqb per 0) (e .0) in
-    let b : block ≡ 0 → ⊥ = eqb-false block 0 (d .0) in
-    let p : per ≡ 0 → ⊥ = eqb-false per 0 (d .1) in
-    record { block-some = omega arith; per-some = omega arith; superblock-most = ltb-false maxSuperblock (block * per) (e .1); bytes-most = most }
 
 -- ---- a table: a row of 256 numbers for each r with r × m at most n
 

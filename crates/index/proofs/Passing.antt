@@ -18,7 +18,7 @@ use Rattle.tree.proofs.Reading.{nodes-good, text-of-nodes}
 use Rattle.tree.proofs.Passing.{text-below, nodes-of-text}
 use Rattle.tree.proofs.Words.{length-of-text}
 use Rattle.index.specs.declared.Shape.{Shape}
-use Rattle.index.specs.Arrays.{Arrays, arrays, bytesOf, lengthsOf, indexOf, nodesIn, textIn, passes, sameArrays}
+use Rattle.index.specs.Arrays.{Arrays, bytesOf, lengthsOf, indexOf, nodesIn, textIn, passes, sameArrays}
 use Rattle.index.specs.Exact.{IsText, HasIndex}
 use Rattle.index.proofs.Texts.{tested-text, text-tested, arrays-same, same-arrays, nodes-of-index, text-of-index}
 

@@ -20,11 +20,11 @@ use Rattle.base.proofs.Counts.{count-hit, count-miss, count-take-less, Found, n
 use Rattle.base.proofs.Ranges.{pass-range, range-pass, range-fails, map-range-is}
 use Rattle.base.proofs.Segments.{count-segments, segment-length, all-segment}
 use Rattle.base.proofs.Answers.{first-here, first-later, first-none}
-use Rattle.dense.specs.Code.{continuing, closes, maxVocabulary, vocabularyCase}
+use Rattle.dense.specs.Code.{continuing, maxVocabulary, vocabularyCase}
 use Rattle.directory.specs.Counters.{row, blocksCase}
 use Rattle.directory.proofs.Rows.{row-length, row-at}
 use Rattle.tree.specs.Nodes.{child, nodeCount, rankIn}
-use Rattle.tree.specs.Walks.{node, Good}
+use Rattle.tree.specs.Walks.{Good}
 use Rattle.index.specs.declared.Shape.{Shape}
 use Rattle.index.specs.Arrays.{Arrays, passes}
 use Rattle.index.specs.Entries.{indexCases, checkAnswer, limitsRefusal}

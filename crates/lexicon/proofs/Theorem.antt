@@ -20,12 +20,12 @@ use Rattle.base.specs.declared.Answer.{Answer}
 use Rattle.dense.specs.Code.{vocabularyCase, maxVocabulary}
 use Rattle.lexicon.proofs.Calls.{accepts-accepted, accepted-accepts}
 use Rattle.lexicon.proofs.Members.{first-where-most, first-where-passes, rank-below, rank-stands}
-use Rattle.lexicon.proofs.Parts.{some-left, none}
+use Rattle.lexicon.proofs.Parts.{some-left}
 use Rattle.lexicon.proofs.Scans.{Letter, gap-more, gap-none, run-none, run-more, start-least, begins, words-end, words-after, Next, next, words-first}
 use Rattle.lexicon.proofs.Tables.{letters-rule, table-entry}
 use Rattle.lexicon.proofs.Written.{is-spelling, closed-size}
 use Rattle.lexicon.specs.Laws.{IsRun, InOrder, WordsExact, unlistedPlace, ReadingExact, ReadingOfTables}
-use Rattle.lexicon.specs.Letters.{letters, letterIn, keeps, isTable}
+use Rattle.lexicon.specs.Letters.{letters, letterIn, isTable}
 use Rattle.lexicon.specs.Lexicon.{listSize, listWords, isClosed, rankIn, isIn, distinct, isSpelling, isSpelled, isWritten, isList}
 use Rattle.lexicon.specs.Reading.{Word, word, textWords, textRanks, isListed, firstUnlisted, readTextAnswer, readTextExit}
 use Rattle.lexicon.specs.Scans.{gap, run, wordsAt, wordAt, startFrom, Begins}

@@ -1,6 +1,6 @@
 -- What the call that builds leaves in the slices of the listing: the nodes of the text. Assumes nothing.
 use Prim.Native.Nat.{ℕ, suc, _*_, _/_, _≤_}
-use mathlib.Core.Path.{_≡_, refl, sym, ap, ap₂, _∙_}
+use mathlib.Core.Path.{_≡_, sym, ap, ap₂, _∙_}
 use mathlib.Core.Bool.{false}
 use mathlib.Core.List.{List}
 use native.Mathlib.Omega.{arith}
@@ -14,7 +14,7 @@ use Rattle.base.proofs.Fronts.{take-front}
 use Rattle.dense.specs.Streams.{stream}
 use Rattle.tree.specs.Nodes.{nodeCount, nodes}
 use Rattle.index.specs.declared.Shape.{Shape}
-use Rattle.index.specs.Arrays.{Arrays, arrays, indexOf}
+use Rattle.index.specs.Arrays.{Arrays, indexOf}
 use Rattle.index.specs.Entries.{isShorter, buildAnswer, buildExit}
 use Rattle.index.specs.Filling.{tooShort}
 use Rattle.index.proofs.Exact.{build-accepted, build-filled}

@@ -1,7 +1,6 @@
 -- Statement: what is printed for the sample of paper 01, and at the edges.
-use Prim.Native.Nat.{ℕ}
 use mathlib.Core.Path.{_≡_}
-use mathlib.Core.List.{List, [], _∷_}
+use mathlib.Core.List.{[], _∷_}
 use Rattle.formatting.specs.Characters.{characters}
 use Rattle.node_listing.specs.Listing.{listing}
 

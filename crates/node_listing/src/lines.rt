@@ -1,6 +1,5 @@
 // The lines of a listing, each written from a position of a slice on: the position after it is
 // returned.
-ghost use mathlib.Core.Path.{_≡_};
 ghost use Prim.Native.Nat.{_+_, _≤_};
 ghost use lib.ListN.{length};
 ghost use Rattle.base.specs.Lists.{total, segments};

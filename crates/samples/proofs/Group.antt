@@ -11,7 +11,6 @@ use Rattle.tree.specs.Nodes.{path, reach, nodeBytes, nodes}
 use Rattle.tree.specs.Walks.{textOf}
 use Rattle.index.specs.Arrays.{bytesOf, lengthsOf, indexOf, textIn, sameArrays, passes}
 use Rattle.index.specs.Entries.{indexCases}
-use Rattle.words.specs.Words.{occurrencesBelow, frequency, nthPlace}
 use Rattle.phrases.specs.Phrases.{agrees, stands, places}
 use Rattle.phrases.specs.Neighbours.{standsAt, neighbourAt, neighbours}
 use Rattle.questions.specs.Answering.{rankAskedCase, phraseIn, phraseCases, occurrencesAnswer, placeAnswer, neighboursAnswer, phraseAnswer, questionAnswer, askAnswer}

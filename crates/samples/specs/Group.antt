@@ -1,7 +1,6 @@
 -- Statement: the examples that paper 01 marks to be proved, as one group, with 128 closing values.
-use Prim.Native.Nat.{ℕ}
 use mathlib.Core.Path.{_≡_}
-use mathlib.Core.List.{List, [], _∷_}
+use mathlib.Core.List.{[], _∷_}
 use lib.IntN.{pos}
 use Rattle.base.specs.Answers.{accepted}
 use Rattle.dense.specs.Streams.{stream, streamText}

@@ -1,9 +1,9 @@
 -- The way of a rank up to the root: at each step, the position of the place sought. Assumes nothing.
-use Prim.Native.Nat.{ℕ, _≤_, _<_}
+use Prim.Native.Nat.{ℕ, _<_}
 use mathlib.Core.Path.{_≡_, refl, sym, ap, _∙_}
 use mathlib.Core.List.{List}
 use native.Mathlib.Omega.{arith}
-use lib.ListN.{length, getD}
+use lib.ListN.{length}
 use Rattle.base.specs.Lists.{countOf, nth}
 use Rattle.base.proofs.Counts.{Found, nth-found}
 use Rattle.tree.specs.Nodes.{parent, digit, nodeOf, closingByte, position}

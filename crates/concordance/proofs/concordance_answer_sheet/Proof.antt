@@ -74,19 +74,19 @@ use Rattle.index.proofs.Shape as S
 use Rattle.index.proofs.Shape.Laws as S′
 use Rattle.questions.proofs.Question as Q
 use Rattle.questions.proofs.Question.Laws as Q′
-use Rattle.concordance.specs.Sheets.{pairOf, sheetAnswer, sheetExit}
+use Rattle.sheets.specs.Sheets.{pairOf, sheetAnswer, sheetExit}
 use Rattle.concordance.proofs.Again.{LentAgain, lends-again, comes-back}
 use Rattle.concordance.proofs.Table.{zeros-typed, lends-zeros, lends-shared, array-room, shared-room}
 use Rattle.concordance.proofs.Rules.{large, tests, guards}
-use Rattle.concordance.proofs.Tested.{sheet-clear, sheet-filled, sheet-untouched, after as after-questions, after-none, after-next, after-all, after-length}
-use Rattle.concordance.proofs.sheets.prepare as prepare
-use Rattle.concordance.proofs.sheets.prepare.Symbol as prepare-def
-use Rattle.concordance.proofs.sheets.prepare.Symbol.{name as #prepare}
-use Rattle.concordance.proofs.sheets.prepare.Met as prepare-thm
-use Rattle.concordance.proofs.sheets.answer_next as answer-next
-use Rattle.concordance.proofs.sheets.answer_next.Symbol as answer-next-def
-use Rattle.concordance.proofs.sheets.answer_next.Symbol.{name as #answer-next}
-use Rattle.concordance.proofs.sheets.answer_next.Met as answer-next-thm
+use Rattle.sheets.proofs.Tested.{sheet-clear, sheet-filled, sheet-untouched, after as after-questions, after-none, after-next, after-all, after-length}
+use Rattle.sheets.proofs.prepare as prepare
+use Rattle.sheets.proofs.prepare.Symbol as prepare-def
+use Rattle.sheets.proofs.prepare.Symbol.{name as #prepare}
+use Rattle.sheets.proofs.prepare.Met as prepare-thm
+use Rattle.sheets.proofs.answer_next as answer-next
+use Rattle.sheets.proofs.answer_next.Symbol as answer-next-def
+use Rattle.sheets.proofs.answer_next.Symbol.{name as #answer-next}
+use Rattle.sheets.proofs.answer_next.Met as answer-next-thm
 use Rattle.concordance.proofs.concordance_answer_sheet.Key.{name as #concordance·concordance-answer-sheet}
 use Rattle.concordance.proofs.concordance_answer_sheet as sheet
 use Rattle.concordance.proofs.concordance_answer_sheet.Statement as stated
@@ -664,5 +664,5 @@ concordance-answer-sheet-spec 𝓤 H 𝓜 𝓖 𝓡 =
     entered 𝓤 H (tripleOf 𝓤 H (𝓖 .A) sheet.signature (sheet.spec 𝓤 H (𝓖 .A) (𝓜 .mem) (𝓡 .run)))
     (tables 𝓤 H 𝓜 𝓡 code.env .C) (tables 𝓤 H 𝓜 𝓡 code.env .Λ) #concordance·concordance-answer-sheet code.function (code.unfolded 𝓤 H 𝓜 𝓡)
     (sheet-meets 𝓤 H (𝓖 .A) (givenOf 𝓤 H 𝓜 𝓖) (𝓜 .mem) (𝓡 .run) (tablesOf 𝓤 H 𝓜 (tables 𝓤 H 𝓜 𝓡 code.env))
-    (cited 𝓤 H (Prepare 𝓤 H (𝓖 .A) (𝓜 .mem) (𝓡 .run)) 𝓜 𝓡 code.env #prepare prepare-def.routine code.calls-concordance·sheets·prepare (prepare-thm.met 𝓤 H 𝓜 𝓖 𝓡))
-    (cited 𝓤 H (Next 𝓤 H (𝓖 .A) (𝓜 .mem) (𝓡 .run)) 𝓜 𝓡 code.env #answer-next answer-next-def.routine code.calls-concordance·sheets·answer-next (answer-next-thm.met 𝓤 H 𝓜 𝓖 𝓡)))
+    (cited 𝓤 H (Prepare 𝓤 H (𝓖 .A) (𝓜 .mem) (𝓡 .run)) 𝓜 𝓡 code.env #prepare prepare-def.routine code.calls-sheets·prepare (prepare-thm.met 𝓤 H 𝓜 𝓖 𝓡))
+    (cited 𝓤 H (Next 𝓤 H (𝓖 .A) (𝓜 .mem) (𝓡 .run)) 𝓜 𝓡 code.env #answer-next answer-next-def.routine code.calls-sheets·answer-next (answer-next-thm.met 𝓤 H 𝓜 𝓖 𝓡)))

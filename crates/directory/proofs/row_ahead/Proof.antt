@@ -1,6 +1,5 @@
 -- `directory::row_ahead` meets its contract. The loop's invariant: the step is from 1 to 32. Assumes nothing.
 use Prim.Native.Nat.{_≤_, _-_}
-use native.Mathlib.Omega.{arith}
 use borrow.Author.Needs.{needs}
 use Rattle.directory.proofs.row_ahead.Statement.{statement}
 use Rattle.directory.proofs.row_ahead.Tie as tie

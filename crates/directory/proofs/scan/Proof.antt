@@ -1,10 +1,9 @@
 -- `directory::scan` meets its contract. The loop's invariant: what is left of j, with the count of the bytes before start, is j. Assumes nothing.
-use Prim.Native.Nat.{ℕ, _+_, _≤_, _<_, _-_}
-use mathlib.Core.Path.{_≡_, sym, ap, _∙_}
+use Prim.Native.Nat.{ℕ, _+_, _≤_, _-_}
+use mathlib.Core.Path.{_≡_, ap, _∙_}
 use native.Mathlib.Omega.{arith}
 use borrow.Author.Needs.{needs}
-use lib.ListN.{length, take, drop, length-take, length-drop}
-use lib.Seq.{take-all}
+use lib.ListN.{length, take, drop, length-take}
 use Rattle.base.specs.Lists.{countOf, nth}
 use Rattle.base.proofs.Counts.{count-part, nth-most}
 use Rattle.directory.proofs.Searches.{position-from}

@@ -1,6 +1,5 @@
 -- `directory::search_blocks` meets its contract. The loop's invariant: row low has at most j, and row high, where it is before end, has more. Assumes nothing.
 use Prim.Native.Nat.{_-_}
-use native.Mathlib.Omega.{arith}
 use borrow.Author.Needs.{needs}
 use Rattle.directory.proofs.Searches.{Left, last-of-more}
 use Rattle.directory.proofs.search_blocks.Statement.{statement}

@@ -1,6 +1,6 @@
 -- `lexicon::build` meets its contract: an empty hash table, the starts of the words, and the words in their buckets. Assumes nothing.
-use Prim.Native.Nat.{ℕ, _<_}
-use mathlib.Core.Path.{_≡_, _∙_}
+use Prim.Native.Nat.{_<_}
+use mathlib.Core.Path.{_∙_}
 use native.Mathlib.Omega.{arith}
 use borrow.Author.Needs.{needs}
 use Rattle.lexicon.proofs.Parts.{chains-none}

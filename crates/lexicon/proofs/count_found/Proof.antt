@@ -7,9 +7,8 @@ use borrow.Author.Needs.{needs}
 use lib.ListN.{length, take}
 use Rattle.lexicon.proofs.Listed.{count-in-hit, count-in-miss, count-in-none}
 use Rattle.lexicon.proofs.Parts.{left-step, some-left, none}
-use Rattle.lexicon.proofs.Scans.{begins, Next, next}
+use Rattle.lexicon.proofs.Scans.{Next, next}
 use Rattle.lexicon.specs.Parts.{indexIn, countIn}
-use Rattle.lexicon.specs.Reading.{word}
 use Rattle.lexicon.specs.Scans.{wordsAt, wordAt, startFrom, Begins}
 use Rattle.lexicon.proofs.count_found.Statement.{statement}
 use Rattle.lexicon.proofs.count_found.Tie as tie

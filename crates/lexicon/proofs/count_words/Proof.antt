@@ -4,7 +4,7 @@ use mathlib.Core.Path.{_≡_, ap, _∙_}
 use native.Mathlib.Omega.{arith}
 use lib.ListN.{length}
 use Rattle.lexicon.proofs.Scans.{begins, words-end, Next, next, words-first}
-use Rattle.lexicon.specs.Reading.{word, textWords}
+use Rattle.lexicon.specs.Reading.{textWords}
 use Rattle.lexicon.specs.Scans.{wordsAt, wordAt, startFrom, Begins}
 use Rattle.lexicon.proofs.count_words.Statement.{statement}
 use Rattle.lexicon.proofs.count_words.Tie as tie

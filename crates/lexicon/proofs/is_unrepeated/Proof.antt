@@ -9,7 +9,7 @@ use borrow.Author.Count.{below-more}
 use lib.ListN.{length, drop, length-drop}
 use Rattle.lexicon.proofs.Listed.{own-none, own-here, own-not, unrepeated-yes, unrepeated-not}
 use Rattle.lexicon.proofs.Parts.{spelled-here, left-next, some-left, none}
-use Rattle.lexicon.proofs.Scans.{begins, Next, next}
+use Rattle.lexicon.proofs.Scans.{Next, next}
 use Rattle.lexicon.specs.Parts.{spelledAt, indexIn, isOwn}
 use Rattle.lexicon.specs.Reading.{word}
 use Rattle.lexicon.specs.Scans.{wordsAt, wordAt, startFrom, Begins}

@@ -8,14 +8,12 @@ use borrow.Author.Needs.{needs}
 use borrow.Author.Tests.{not-true, not-false}
 use lib.ListN.{length}
 use Rattle.base.proofs.Tests.{inside-range, below-range, above-range, range-inside}
-use Rattle.base.specs.Answers.{accepted, refusedAt, written, front}
+use Rattle.base.specs.Answers.{accepted, refusedAt, front}
 use Rattle.base.specs.Lists.{allPass}
 use Rattle.base.specs.Texts.{maxWords, outside}
 use Rattle.dense.specs.Code.{maxVocabulary}
 use Rattle.lexicon.proofs.Calls.{read-vocabulary, read-words, read-short, read-list, read-unlisted, read-refused, read-accepted, list-unwritten, list-by-tests, list-sized, found-unlisted, found-offset, found-none, all-listed, ranks-are}
-use Rattle.lexicon.proofs.Parts.{none}
 use Rattle.lexicon.specs.Laws.{Accepts}
-use Rattle.lexicon.specs.Letters.{within}
 use Rattle.lexicon.specs.Lexicon.{listSize, distinct, isWritten, isList}
 use Rattle.lexicon.specs.Reading.{textWords, isListed}
 use Rattle.lexicon.specs.Scans.{spellings}

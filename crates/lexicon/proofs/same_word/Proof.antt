@@ -6,7 +6,6 @@ use borrow.Author.Needs.{needs}
 use lib.ListN.{length}
 use Rattle.base.specs.Lists.{same}
 use Rattle.lexicon.proofs.Scans.{letter-below, same-letter, other-letter, both-end}
-use Rattle.lexicon.specs.Letters.{letters}
 use Rattle.lexicon.specs.Scans.{letterAt, wordAt}
 use Rattle.lexicon.proofs.same_word.Statement.{statement}
 use Rattle.lexicon.proofs.same_word.Tie as tie

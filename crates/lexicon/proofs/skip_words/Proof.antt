@@ -5,8 +5,7 @@ use native.Mathlib.Omega.{arith}
 use borrow.Author.Needs.{needs}
 use lib.ListN.{length, drop}
 use Rattle.lexicon.proofs.Parts.{left-step, some-left, none}
-use Rattle.lexicon.proofs.Scans.{begins, Next, next}
-use Rattle.lexicon.specs.Reading.{word}
+use Rattle.lexicon.proofs.Scans.{Next, next}
 use Rattle.lexicon.specs.Scans.{wordsAt, wordAt, startFrom, Begins}
 use Rattle.lexicon.proofs.skip_words.Statement.{statement}
 use Rattle.lexicon.proofs.skip_words.Tie as tie

@@ -9,7 +9,7 @@ use Rattle.lexicon.proofs.Listed.{ranked-none, ranked-more}
 use Rattle.lexicon.proofs.Parts.{index-most, left-next, some-left, take-next}
 use Rattle.lexicon.proofs.Scans.{begins, Next, next, words-first}
 use Rattle.lexicon.specs.Parts.{Ranked}
-use Rattle.lexicon.specs.Reading.{word, textWords}
+use Rattle.lexicon.specs.Reading.{textWords}
 use Rattle.lexicon.specs.Scans.{wordsAt, wordAt, startFrom, Begins}
 use Rattle.lexicon.proofs.write_found.Statement.{statement}
 use Rattle.lexicon.proofs.write_found.Tie as tie

@@ -3,15 +3,13 @@
 use Prim.Native.Nat.{_+_, _-_, _*_, _≤_, _<_}
 -- writes the page. Assumes nothing.
 -- writes the page. Assumes nothing.
-use mathlib.Core.Path.{_≡_, refl, sym, ap, _∙_}
-use mathlib.Core.Bool.{Bool, true, false}
-use mathlib.Core.List.{List}
+use mathlib.Core.Path.{_≡_, sym, ap, _∙_}
+use mathlib.Core.Bool.{false}
 use native.Mathlib.Omega.{arith}
 use borrow.Author.Tests.{ne-eqb}
 use lib.ListN.{length, take, drop}
 use Rattle.base.specs.declared.Answer.{Answer}
 use Rattle.base.specs.Answers.{accepted, refused, isAccepted, front}
-use Rattle.base.specs.Refusals.{refusalPlace, refusalPage}
 use Rattle.base.proofs.Texts.{below-of-test}
 use Rattle.index.specs.Arrays.{Arrays, arrays, textIn}
 use Rattle.index.specs.Entries.{checkAnswer}

@@ -1,9 +1,8 @@
 -- `nodes_cases::checksum` meets its contract: both sums stay below the remainder. Assumes nothing.
-use Prim.Native.Nat.{_+_, _*_, _≤_, _<_, _-_, _/_}
-use mathlib.Core.Path.{_≡_}
+use Prim.Native.Nat.{_≤_, _<_, _-_}
 use native.Mathlib.Omega.{arith}
 use borrow.Author.Needs.{needs}
-use lib.ListN.{length, length-set}
+use lib.ListN.{length}
 use Rattle.nodes_cases.proofs.checksum.Statement.{statement}
 use Rattle.nodes_cases.proofs.checksum.Tie as tie
 

@@ -1,9 +1,8 @@
 -- `nodes_cases::fill_ones` stays inside the slice and ends. Assumes nothing.
-use Prim.Native.Nat.{_+_, _*_, _≤_, _<_, _-_, _/_}
+use Prim.Native.Nat.{_≤_, _-_}
 use mathlib.Core.Path.{_≡_}
-use native.Mathlib.Omega.{arith}
 use borrow.Author.Needs.{needs}
-use lib.ListN.{length, length-set}
+use lib.ListN.{length}
 use Rattle.nodes_cases.proofs.fill_ones.Statement.{statement}
 use Rattle.nodes_cases.proofs.fill_ones.Tie as tie
 

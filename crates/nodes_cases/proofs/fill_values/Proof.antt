@@ -1,5 +1,5 @@
 -- `nodes_cases::fill_values` stays inside the slice and ends. Assumes nothing.
-use Prim.Native.Nat.{_+_, _*_, _≤_, _<_, _-_, _/_}
+use Prim.Native.Nat.{_≤_, _-_, _/_}
 use mathlib.Core.Path.{_≡_}
 use native.Mathlib.Omega.{arith}
 use borrow.Author.Needs.{needs}

@@ -1,9 +1,7 @@
 -- `nodes_cases::first_line` meets its contract. Assumes nothing.
-use Prim.Native.Nat.{_+_, _*_, _≤_, _<_, _-_, _/_}
-use mathlib.Core.Path.{_≡_}
-use native.Mathlib.Omega.{arith}
+use Prim.Native.Nat.{_≤_, _-_}
 use borrow.Author.Needs.{needs}
-use lib.ListN.{length, length-set}
+use lib.ListN.{length}
 use Rattle.nodes_cases.proofs.first_line.Statement.{statement}
 use Rattle.nodes_cases.proofs.first_line.Tie as tie
 

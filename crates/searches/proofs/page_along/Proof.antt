@@ -2,8 +2,8 @@
 -- Assumes nothing.
 use Rattle.base.proofs.Counts.{count-take-whole, count-most as often-most}
 use Rattle.pages.proofs.Counting.{count-most}
-use mathlib.Core.Path.{_≡_, refl, sym, ap, _∙_}
-use Prim.Native.Nat.{ℕ, suc, _+_, _-_, _≤_, _<_}
+use mathlib.Core.Path.{_≡_, sym, ap, _∙_}
+use Prim.Native.Nat.{ℕ, _+_, _-_, _≤_, _<_}
 use native.Mathlib.Omega.{arith}
 use borrow.Author.Needs.{needs}
 use mathlib.Core.Logic.{⊎-elim}
@@ -11,7 +11,7 @@ use mathlib.Core.Bool.{Bool, true, false}
 use mathlib.Core.List.{List}
 use lib.ListN.{length, getD, take}
 use Rattle.index.specs.Arrays.{arrays, textIn}
-use Rattle.base.specs.Lists.{countOf, nth}
+use Rattle.base.specs.Lists.{countOf}
 use Rattle.base.specs.Answers.{front}
 use Rattle.base.specs.Texts.{maxWords}
 use Rattle.base.proofs.Lists.{all-at}
@@ -26,7 +26,7 @@ use Rattle.pages.proofs.Searching.{Made, search-starts, search-taken, search-pa
 use Rattle.searches.specs.declared.Written.{Written}
 use Rattle.searches.specs.Searching.{writtenOf, endedAt}
 use Rattle.searches.proofs.Readied.{ready-some, ready-most}
-use Rattle.searches.proofs.Candidates.{candidate-there, candidate-later, candidate-inside}
+use Rattle.searches.proofs.Candidates.{candidate-later, candidate-inside}
 use Rattle.searches.proofs.page_along.Statement.{statement}
 use Rattle.searches.proofs.page_along.Tie as tie
 

@@ -1,7 +1,6 @@
 -- `words::place_along` meets its contract: each step finds the position of the place in its node. Assumes nothing.
-use mathlib.Core.Path.{_≡_}
 use native.Mathlib.Omega.{arith}
-use Rattle.words.proofs.Ways.{Asks, Climbed, first-asks, first-climbed, up-asks, up-climbed, climbed-root}
+use Rattle.words.proofs.Ways.{Climbed, first-asks, first-climbed, up-asks, up-climbed, climbed-root}
 use Rattle.words.proofs.place_along.Statement.{statement}
 use Rattle.words.proofs.place_along.Tie as tie
 

@@ -1,6 +1,5 @@
 -- `index::checking::node_row` meets its contract: both ways count the bytes of the part. Assumes nothing.
 use native.Mathlib.Omega.{arith}
-use lib.ListN.{drop, length-take, length-drop}
 use Rattle.directory.proofs.Rows.{block-most}
 use borrow.Author.Needs.{needs}
 use Rattle.index.proofs.checking.node_row.Statement.{statement}

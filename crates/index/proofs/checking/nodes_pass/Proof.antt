@@ -7,7 +7,7 @@ use native.Mathlib.Omega.{arith}
 use native.Mathlib.Numerals.{add-one}
 use borrow.Author.Tests.{not-true, not-false}
 use borrow.Author.Needs.{needs}
-use lib.ListN.{drop, length-take, length-drop, length, take, getD}
+use lib.ListN.{drop, length, take, getD}
 use Rattle.base.specs.Lists.{allPass, rangeFrom, total, segments}
 use Rattle.base.proofs.Ranges.{pass-range-suc}
 use Rattle.base.proofs.Sums.{total-take-suc, total-take-whole}

@@ -15,9 +15,9 @@ use Rattle.index.specs.Entries.{checkAnswer}
 use Rattle.questions.specs.declared.Question.{Question}
 use Rattle.questions.specs.Answering.{questionAnswer, askAnswer}
 use Rattle.questions.proofs.Read.{ask-passed}
-use Rattle.concordance.specs.Sheets.{pairsOf, sheetAnswer, sheetExit, HasPair, SheetsEqualSingles}
-use Rattle.concordance.proofs.Values.{has-pair}
-use Rattle.concordance.proofs.Tested.{sheet-clear, sheet-accepted, sheet-filled, sheet-untouched}
+use Rattle.sheets.specs.Sheets.{pairsOf, sheetAnswer, sheetExit, HasPair, SheetsEqualSingles}
+use Rattle.sheets.proofs.Values.{has-pair}
+use Rattle.sheets.proofs.Tested.{sheet-clear, sheet-accepted, sheet-filled, sheet-untouched}
 
 -- the pair of an answer stands at twice the number of those before it, whatever stands after it
 pair-at : (rs : List Answer) (r : Answer) (us : List Answer) (rest : List ℕ)

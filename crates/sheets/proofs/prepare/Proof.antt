@@ -7,9 +7,9 @@ use Rattle.index.specs.Arrays.{Arrays, arrays}
 use Rattle.index.specs.Entries.{checkAnswer}
 use Rattle.words.specs.Ready.{Checked}
 use Rattle.words.proofs.Parts.{accepted-checked, checked-most, checked-total}
-use Rattle.concordance.proofs.Tested.{sheet-index, sheet-short, sheet-accepted}
-use Rattle.concordance.proofs.sheets.prepare.Statement.{statement}
-use Rattle.concordance.proofs.sheets.prepare.Tie as tie
+use Rattle.sheets.proofs.Tested.{sheet-index, sheet-short, sheet-accepted}
+use Rattle.sheets.proofs.prepare.Statement.{statement}
+use Rattle.sheets.proofs.prepare.Tie as tie
 
 -- the four slices
 abbrev four : tie.Start → Arrays

@@ -9,7 +9,7 @@ ghost use Rattle.index.specs.Arrays.{arrays, textIn};
 ghost use Rattle.index.specs.Starts.{maxStarts, NodeStarts};
 ghost use Rattle.words.specs.Ready.{Ready};
 ghost use Rattle.questions.specs.Answering.{questionAnswer};
-ghost use Rattle.concordance.specs.Sheets.{pairOf, sheetAnswer};
+ghost use Rattle.sheets.specs.Sheets.{pairOf, sheetAnswer};
 use base::Answer;
 use base::refusal;
 use index::Shape;

@@ -23,7 +23,7 @@ use Rattle.questions.specs.declared.Question.{Question}
 use Rattle.questions.specs.Answering.{questionAnswer}
 use Rattle.questions.proofs.Answered.{check-passed}
 use Rattle.questions.proofs.Read.{index-tests}
-use Rattle.concordance.specs.Sheets.{pairOf, pairsOf, roomCase, sheetCases, sheetAnswer, sheetExit}
+use Rattle.sheets.specs.Sheets.{pairOf, pairsOf, roomCase, sheetCases, sheetAnswer, sheetExit}
 
 -- a slice that is too short, and one that is not
 short-room : (asked room : ℕ) (answer : Answer) → room < 2 * asked → firstOf (roomCase asked room ∷ []) answer ≡ refused refusalPage

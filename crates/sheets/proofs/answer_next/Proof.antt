@@ -7,11 +7,11 @@ use Rattle.base.specs.declared.Answer.{Answer}
 use Rattle.base.specs.Answers.{written}
 use Rattle.base.specs.Texts.{maxWords}
 use Rattle.index.specs.Arrays.{arrays}
-use Rattle.concordance.specs.Sheets.{pairOf}
-use Rattle.concordance.proofs.Values.{value-most}
-use Rattle.concordance.proofs.Tested.{pair-written}
-use Rattle.concordance.proofs.sheets.answer_next.Statement.{statement}
-use Rattle.concordance.proofs.sheets.answer_next.Tie as tie
+use Rattle.sheets.specs.Sheets.{pairOf}
+use Rattle.sheets.proofs.Values.{value-most}
+use Rattle.sheets.proofs.Tested.{pair-written}
+use Rattle.sheets.proofs.answer_next.Statement.{statement}
+use Rattle.sheets.proofs.answer_next.Tie as tie
 
 -- the value of an answer fits the numbers of a pair
 small : (c : tie.After-struct-known) → c .before .answer .result .value ≤ suc maxWords

@@ -27,7 +27,7 @@ use Rattle.phrases.specs.Phrases.{stands, places}
 use Rattle.phrases.specs.Neighbours.{neighbourAt, neighbours}
 use Rattle.questions.specs.declared.Question.{Question}
 use Rattle.questions.specs.Answering.{rankAskedCase, phraseIn, phraseCases, wordAtAnswer, occurrencesAnswer, placeAnswer, neighboursAnswer, phraseAnswer, questionAnswer}
-use Rattle.concordance.specs.Sheets.{HasPair}
+use Rattle.sheets.specs.Sheets.{HasPair}
 
 module _ (P : Answer → Type 0) where
   -- what holds of both sides of a choice holds of the choice
