@@ -92,36 +92,40 @@ static uint32_t answer(const twin::Index &index, const concordance_question &q, 
     }
 }
 
-// What the engine answered to the sheets of the five kinds, and the least time of each.
-struct Answered {
-    std::vector<uint32_t> values[6];
-    double spent[6];
-};
-
 static std::string sheet_of(int kind, const Asked &asked) {
     return "sheet of kind " + std::to_string(kind) + ", " + std::to_string(asked.kinds[kind].size()) + " questions";
 }
 
+// Times a sheet of one kind by the engine and another program that answers its questions, and compares the answers.
+template <class Program>
+static void sheet(const Engine &engine, const Asked &asked, int kind, const std::string &what, const char *other, Program program) {
+    const auto &qs = asked.kinds[kind];
+    std::vector<uint32_t> pairs(2 * qs.size()), theirs(qs.size());
+    const Both time = in_turn(
+        runs, [&] { must(engine.sheet(asked.words, qs, pairs).refusal == 0, "sheet"); }, [&] { program(theirs); });
+    for (size_t i = 0; i < qs.size(); i++) must(pairs[2 * i] == 0 && pairs[2 * i + 1] == theirs[i], other);
+    table.add(engine.a.lengths[0], what, time.one, other, time.other);
+}
+
+// The same with a function that answers one question.
+template <class Answer>
+static void beside(const Engine &engine, const Asked &asked, int kind, const std::string &what, const char *other, Answer answer) {
+    const auto &qs = asked.kinds[kind];
+    sheet(engine, asked, kind, what, other, [&](std::vector<uint32_t> &theirs) {
+        for (size_t i = 0; i < qs.size(); i++) theirs[i] = answer(qs[i]);
+    });
+}
+
 // The sheets of the five kinds: the check is paid once in each, by the engine and by the twin.
-static Answered sheets(const Engine &engine, const Asked &asked) {
-    Answered answered;
+static void sheets(const Engine &engine, const Asked &asked) {
     for (int kind = 1; kind <= 5; kind++) {
         const auto &qs = asked.kinds[kind];
-        std::vector<uint32_t> pairs(2 * qs.size()), theirs(qs.size()), &ours = answered.values[kind];
-        answered.spent[kind] = seconds(runs, [&] { must(engine.sheet(asked.words, qs, pairs).refusal == 0, "sheet"); });
-        const double other = seconds(runs, [&] {
+        sheet(engine, asked, kind, sheet_of(kind, asked), "twin", [&](std::vector<uint32_t> &theirs) {
             must(twin::check(engine.a, vocabulary), "check");
             const twin::Index index(engine.a);
             for (size_t i = 0; i < qs.size(); i++) theirs[i] = answer(index, qs[i], asked);
         });
-        for (size_t i = 0; i < qs.size(); i++) {
-            must(pairs[2 * i] == 0, "sheet");
-            ours.push_back(pairs[2 * i + 1]);
-        }
-        must(ours == theirs, "sheet");
-        table.add(engine.a.lengths[0], sheet_of(kind, asked), answered.spent[kind], "twin", other);
     }
-    return answered;
 }
 
 // The first page of a phrase of two words that stands in the text.
@@ -129,27 +133,29 @@ static void pages(const Engine &engine, const Asked &asked) {
     const uint32_t *phrase = &asked.words[asked.kinds[5][0].start];
     std::vector<uint32_t> ours(20), theirs(20);
     concordance_page page;
-    const double one = seconds(runs, [&] { page = engine.page(concordance_open(), phrase, 2, ours); });
     uint32_t count = 0;
     bool more = false;
-    const double other = seconds(runs, [&] {
-        must(twin::check(engine.a, vocabulary), "check");
-        more = twin::Index(engine.a).page(phrase, 2, 0, theirs, count);
-    });
+    const Both time = in_turn(
+        runs, [&] { page = engine.page(concordance_open(), phrase, 2, ours); },
+        [&] {
+            must(twin::check(engine.a, vocabulary), "check");
+            more = twin::Index(engine.a).page(phrase, 2, 0, theirs, count);
+        });
     must(page.answer.refusal == 0 && page.answer.value == count && page.more == more && ours == theirs, "page");
-    table.add(engine.a.lengths[0], "a page with room for 20 lines", one, "twin", other);
+    table.add(engine.a.lengths[0], "a page with room for 20 lines", time.one, "twin", time.other);
 }
 
 static void passages(const Engine &engine, const std::vector<uint32_t> &text) {
     std::vector<uint32_t> ours(10000), theirs(10000);
-    const double one = seconds(runs, [&] { must(engine.passage(5000, ours).refusal == 0, "passage"); });
-    const double other = seconds(runs, [&] {
-        must(twin::check(engine.a, vocabulary), "check");
-        const twin::Index index(engine.a);
-        for (size_t i = 0; i < theirs.size(); i++) theirs[i] = index.word_at(5000 + i);
-    });
+    const Both time = in_turn(
+        runs, [&] { must(engine.passage(5000, ours).refusal == 0, "passage"); },
+        [&] {
+            must(twin::check(engine.a, vocabulary), "check");
+            const twin::Index index(engine.a);
+            for (size_t i = 0; i < theirs.size(); i++) theirs[i] = index.word_at(5000 + i);
+        });
     must(ours == theirs && std::equal(ours.begin(), ours.end(), text.begin() + 5000), "passage");
-    table.add(engine.a.lengths[0], "a passage of 10,000 words", one, "twin", other);
+    table.add(engine.a.lengths[0], "a passage of 10,000 words", time.one, "twin", time.other);
 }
 
 // Reading a stream and a plain text, the stream beside a plain loop over its bytes.
@@ -157,47 +163,35 @@ static void reading(const std::vector<uint32_t> &text) {
     std::vector<uint8_t> stream(text.size() * 3);
     const size_t size = concordance_write_stream(vocabulary, text.data(), text.size(), stream.data(), stream.size()).value;
     std::vector<uint32_t> ours(text.size()), theirs(text.size());
-    const double one = seconds(runs, [&] {
-        must(concordance_read_stream(stream.data(), size, ours.data(), ours.size()).refusal == 0, "stream");
-    });
-    const double other = seconds(runs, [&] {
-        size_t word = 0;
-        for (size_t i = 0; i < size;) {
-            uint32_t rank = 0, base = 0;
-            for (; stream[i] < 128; i++) rank = rank * 128 + stream[i], base = base * 128 + 128;
-            theirs[word++] = rank * 128 + (stream[i++] - 128) + base;
-        }
-    });
+    const Both streamed = in_turn(
+        runs, [&] { must(concordance_read_stream(stream.data(), size, ours.data(), ours.size()).refusal == 0, "stream"); },
+        [&] {
+            size_t word = 0;
+            for (size_t i = 0; i < size;) {
+                uint32_t rank = 0, base = 0;
+                for (; stream[i] < 128; i++) rank = rank * 128 + stream[i], base = base * 128 + 128;
+                theirs[word++] = rank * 128 + (stream[i++] - 128) + base;
+            }
+        });
     must(ours == text && theirs == text, "stream");
-    table.add(text.size(), "reading a stream", one, "twin", other);
+    table.add(text.size(), "reading a stream", streamed.one, "twin", streamed.other);
 
     std::string list, plain;
     for (uint32_t rank = 0; rank < vocabulary; rank++) list += spelling(rank) + '\n';
     for (uint32_t word : text) plain += spelling(word) + ' ';
     std::fill(ours.begin(), ours.end(), 0);
     std::fill(theirs.begin(), theirs.end(), 0);
-    const double read = seconds(runs, [&] {
-        const auto answer = concordance_read_text((const uint8_t *)list.data(), list.size(), (const uint8_t *)plain.data(), plain.size(),
-                                                  ours.data(), ours.size());
-        must(answer.refusal == 0 && answer.value == text.size(), "plain text");
-    });
-    const double hashed = seconds(runs, [&] { must(twin::read_text(list, plain, theirs), "plain text"); });
+    const Both read = in_turn(
+        runs,
+        [&] {
+            const auto answer = concordance_read_text((const uint8_t *)list.data(), list.size(), (const uint8_t *)plain.data(), plain.size(),
+                                                      ours.data(), ours.size());
+            must(answer.refusal == 0 && answer.value == text.size(), "plain text");
+        },
+        [&] { must(twin::read_text(list, plain, theirs), "plain text"); });
     must(ours == text && theirs == text, "plain text");
-    table.add(text.size(), "reading plain text", read, "twin", hashed);
-    std::printf("reading plain text of %zu words, %u listed: %.1f MB/s\n", text.size(), vocabulary, plain.size() / read / 1e6);
-}
-
-// Times another program on the questions of a kind, each answered by a function, and compares its answers with the engine's.
-template <class Answer>
-static void beside(const std::vector<uint32_t> &text, const Asked &asked, const Answered &engine, int kind, const std::string &what,
-                   const char *other, Answer answer) {
-    const auto &qs = asked.kinds[kind];
-    std::vector<uint32_t> theirs(qs.size());
-    const double time = seconds(runs, [&] {
-        for (size_t i = 0; i < qs.size(); i++) theirs[i] = answer(qs[i]);
-    });
-    must(theirs == engine.values[kind], other);
-    table.add(text.size(), what, engine.spent[kind], other, time);
+    table.add(text.size(), "reading plain text", read.one, "twin", read.other);
+    std::printf("reading plain text of %zu words, %u listed: %.1f MB/s\n", text.size(), vocabulary, plain.size() / read.one / 1e6);
 }
 
 // A phrase in a wavelet tree, along the occurrences of its rarest word.
@@ -219,7 +213,7 @@ static uint32_t phrase_along(const sdsl::wt_int<> &tree, const uint32_t *phrase,
 }
 
 // libsdsl: kinds 1 to 3 and phrases in an integer wavelet tree, and phrases in a compressed suffix array.
-static void libsdsl(const std::vector<uint32_t> &text, const Asked &asked, const Answered &engine) {
+static void libsdsl(const std::vector<uint32_t> &text, const Asked &asked, const Engine &engine) {
     sdsl::int_vector<> ranks(text.size(), 0, 17);
     for (size_t i = 0; i < text.size(); i++) ranks[i] = text[i] + 1;
     sdsl::wt_int<> tree;
@@ -227,24 +221,23 @@ static void libsdsl(const std::vector<uint32_t> &text, const Asked &asked, const
     std::printf(", %.2f bytes a word\n", double(sdsl::size_in_bytes(tree)) / text.size());
     using Question = concordance_question;
     const char *name = "libsdsl wt_int";
-    beside(text, asked, engine, 1, sheet_of(1, asked), name, [&](const Question &q) { return uint32_t(tree[q.p]) - 1; });
-    beside(text, asked, engine, 2, sheet_of(2, asked), name, [&](const Question &q) { return tree.rank(q.p, q.w + 1); });
-    beside(text, asked, engine, 3, sheet_of(3, asked), name, [&](const Question &q) { return tree.select(q.p, q.w + 1); });
-    beside(text, asked, engine, 5, "phrases, 400 counts", name,
+    beside(engine, asked, 1, sheet_of(1, asked), name, [&](const Question &q) { return uint32_t(tree[q.p]) - 1; });
+    beside(engine, asked, 2, sheet_of(2, asked), name, [&](const Question &q) { return tree.rank(q.p, q.w + 1); });
+    beside(engine, asked, 3, sheet_of(3, asked), name, [&](const Question &q) { return tree.select(q.p, q.w + 1); });
+    beside(engine, asked, 5, "phrases, 400 counts", name,
            [&](const Question &q) { return phrase_along(tree, &asked.words[q.start], q.length); });
     sdsl::csa_wt_int<> suffixes;
     std::printf("libsdsl csa_wt_int: built in %.3f s", seconds(1, [&] { sdsl::construct_im(suffixes, ranks); }));
     std::printf(", %.2f bytes a word\n", double(sdsl::size_in_bytes(suffixes)) / text.size());
-    beside(text, asked, engine, 5, "phrases, 400 counts", "libsdsl csa_wt_int", [&](const Question &q) {
+    beside(engine, asked, 5, "phrases, 400 counts", "libsdsl csa_wt_int", [&](const Question &q) {
         uint32_t pattern[16];
         for (size_t i = 0; i < q.length; i++) pattern[i] = asked.words[q.start + i] + 1;
         return sdsl::count(suffixes, pattern, pattern + q.length);
     });
 }
 
-// The engine's sheets of kinds 4 and 5 over an index whose counters take at most so many bytes, so that with the text, which the index is,
-// it takes no more than the inverted index and a copy of the text in codewords.
-static Answered within(size_t counters, const std::vector<uint32_t> &text, const Asked &asked, const Answered &answered) {
+// An index whose counters take at most so many bytes.
+static Engine within(size_t counters, const std::vector<uint32_t> &text) {
     const uint32_t per = 8;
     const size_t size = twin::stream_length(text);
     const size_t counters_a_block = 256 * sizeof(uint16_t) + 256 * sizeof(uint32_t) / per;
@@ -252,28 +245,23 @@ static Answered within(size_t counters, const std::vector<uint32_t> &text, const
     Engine engine{{vocabulary, block, per}, twin::sized(vocabulary, block, per, size)};
     must(engine.build(text).refusal == 0, "build");
     std::printf("the index at equal space: B %u, b %u, %.2f bytes a word\n", block, per, double(engine.a.space()) / text.size());
-    Answered again = answered;
-    for (int kind : {4, 5}) {
-        const auto &qs = asked.kinds[kind];
-        std::vector<uint32_t> pairs(2 * qs.size());
-        again.spent[kind] = seconds(runs, [&] { must(engine.sheet(asked.words, qs, pairs).refusal == 0, "sheet"); });
-        for (size_t i = 0; i < qs.size(); i++) must(pairs[2 * i] == 0 && pairs[2 * i + 1] == answered.values[kind][i], "sheet");
-    }
-    return again;
+    return engine;
 }
 
-static void inverted(const std::vector<uint32_t> &text, const Asked &asked, const Answered &engine) {
+// A positional inverted index. At equal space, the counters take no more than it does: the engine holds the text in its node bytes, and the
+// inverted index needs a copy of it beside it, which is no smaller in codewords.
+static void inverted(const std::vector<uint32_t> &text, const Asked &asked, const Engine &engine) {
     Inverted *index = nullptr;
     const double built = seconds(1, [&] { index = new Inverted(text, vocabulary); });
     std::printf("inverted index: built in %.3f s, %.2f bytes a word\n", built, double(index->space()) / text.size());
     using Question = concordance_question;
     const auto phrase = [&](const Question &q) { return index->phrase(&asked.words[q.start], q.length); };
     const auto neighbours = [&](const Question &q) { return index->neighbours(q.w, q.v, q.d); };
-    beside(text, asked, engine, 5, "phrases, 400 counts", "inverted index", phrase);
-    beside(text, asked, engine, 4, sheet_of(4, asked), "inverted index", neighbours);
-    const Answered equal = within(index->space(), text, asked, engine);
-    beside(text, asked, equal, 5, "phrases, 400 counts, at equal space", "inverted index", phrase);
-    beside(text, asked, equal, 4, sheet_of(4, asked) + ", at equal space", "inverted index", neighbours);
+    beside(engine, asked, 5, "phrases, 400 counts", "inverted index", phrase);
+    beside(engine, asked, 4, sheet_of(4, asked), "inverted index", neighbours);
+    const Engine equal = within(index->space(), text);
+    beside(equal, asked, 5, "phrases, 400 counts, at equal space", "inverted index", phrase);
+    beside(equal, asked, 4, sheet_of(4, asked) + ", at equal space", "inverted index", neighbours);
     delete index;
 }
 
@@ -304,7 +292,7 @@ static void add_count_places(sqlite3 *db) {
 }
 
 // SQLite's FTS5: it counts the rows that have a phrase, which is no answer of the engine's, and the places of a phrase.
-static void fts5(const std::vector<uint32_t> &text, const Asked &asked, const Answered &engine) {
+static void fts5(const std::vector<uint32_t> &text, const Asked &asked, const Engine &engine) {
     sqlite3 *db;
     sqlite3_open(":memory:", &db);
     add_count_places(db);
@@ -339,15 +327,19 @@ static void fts5(const std::vector<uint32_t> &text, const Asked &asked, const An
         return count;
     };
     sqlite3_prepare_v2(db, "SELECT count(*) FROM t WHERE t MATCH ?", -1, &ask, nullptr);
+    const auto &qs = asked.kinds[5];
+    std::vector<uint32_t> pairs(2 * qs.size());
     uint64_t rows = 0;
-    const double time = seconds(runs, [&] {
-        for (const auto &q : asked.kinds[5]) rows += counted(q);
-    });
+    const Both time = in_turn(
+        runs, [&] { must(engine.sheet(asked.words, qs, pairs).refusal == 0, "sheet"); },
+        [&] {
+            for (const auto &q : qs) rows += counted(q);
+        });
     must(rows > 0, "FTS5");
-    table.add(text.size(), "phrases, 400 counts", engine.spent[5], "SQLite FTS5 (rows)", time);
+    table.add(text.size(), "phrases, 400 counts", time.one, "SQLite FTS5 (rows)", time.other);
     sqlite3_finalize(ask);
     sqlite3_prepare_v2(db, "SELECT places(t) FROM t WHERE t MATCH ?", -1, &ask, nullptr);
-    beside(text, asked, engine, 5, "phrases, 400 counts", "SQLite FTS5 (places)", counted);
+    beside(engine, asked, 5, "phrases, 400 counts", "SQLite FTS5 (places)", counted);
     sqlite3_finalize(ask);
     sqlite3_close(db);
 }
@@ -356,25 +348,27 @@ static void measure(size_t n, uint32_t block, uint32_t per, bool peers) {
     const std::vector<uint32_t> text = zipf_text(n, vocabulary, 20261115);
     twin::Arrays made = twin::sized(vocabulary, block, per, twin::stream_length(text));
     Engine engine{{vocabulary, block, per}, made};
-    const double one = seconds(runs, [&] { must(engine.build(text).refusal == 0, "build"); });
-    const double other = seconds(runs, [&] { twin::build(text, made); });
+    const Both built = in_turn(
+        runs, [&] { must(engine.build(text).refusal == 0, "build"); }, [&] { twin::build(text, made); });
     must(engine.a == made, "build");
-    table.add(n, "build", one, "twin", other);
-    const double checked = seconds(runs, [&] { must(engine.check().refusal == 0, "check"); });
-    table.add(n, "check", checked, "twin", seconds(runs, [&] { must(twin::check(made, vocabulary), "check"); }));
+    table.add(n, "build", built.one, "twin", built.other);
+    const auto check = [&] { must(engine.check().refusal == 0, "check"); };
+    const Both checked = in_turn(runs, check, [&] { must(twin::check(made, vocabulary), "check"); });
+    table.add(n, "check", checked.one, "twin", checked.other);
     uint64_t sum = 0;
-    table.add(n, "check", checked, "plain histogram", seconds(runs, [&] { sum += twin::histogram(made.bytes); }));
+    const Both counted = in_turn(runs, check, [&] { sum += twin::histogram(made.bytes); });
+    table.add(n, "check", counted.one, "plain histogram", counted.other);
     std::printf("the index: B %u, b %u, %.2f bytes a word, of which %.2f are node bytes (%llu)\n", block, per, double(made.space()) / n,
                 double(made.bytes.size()) / n, (unsigned long long)sum % 10);
     const Asked asked = questions(text, twin::Index(engine.a), 7);
-    const Answered answered = sheets(engine, asked);
+    sheets(engine, asked);
     pages(engine, asked);
     passages(engine, text);
     reading(text);
     if (!peers) return;
-    inverted(text, asked, answered);
-    libsdsl(text, asked, answered);
-    fts5(text, asked, answered);
+    inverted(text, asked, engine);
+    libsdsl(text, asked, engine);
+    fts5(text, asked, engine);
 }
 
 // Time against n of each thing that was measured beside the twin.

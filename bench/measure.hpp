@@ -1,5 +1,6 @@
 // Times of calls in one run, and the table that they are printed in.
 #pragma once
+#include <algorithm>
 #include <chrono>
 #include <cstdio>
 #include <string>
@@ -13,6 +14,20 @@ template <class Call> double seconds(int runs, Call call) {
         call();
         const std::chrono::duration<double> time = std::chrono::steady_clock::now() - start;
         if (time.count() < least) least = time.count();
+    }
+    return least;
+}
+
+// The seconds of two calls, each the least of some runs; the two are run in turn, so that what else the machine does meets both.
+struct Both {
+    double one, other;
+};
+
+template <class One, class Other> Both in_turn(int runs, One one, Other other) {
+    Both least{1e99, 1e99};
+    for (int i = 0; i < runs; i++) {
+        least.one = std::min(least.one, seconds(1, one));
+        least.other = std::min(least.other, seconds(1, other));
     }
     return least;
 }
