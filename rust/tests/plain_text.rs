@@ -64,7 +64,7 @@ fn long_lists() {
         {
             let mut ours = vec![88; 5_002];
             let mut theirs = ours.clone();
-            let answer = calls::read_text(list, text.as_bytes(), &mut ours);
+            let answer = entries::read_text(list, text.as_bytes(), &mut ours);
             assert_eq!(answer, reference::read_text(list, text.as_bytes(), &mut theirs), "{vocabulary} words listed");
             assert_eq!((answer.refusal, answer.value), (refusal, value), "{vocabulary} words listed");
             assert!(ours == theirs, "{vocabulary} words listed");
