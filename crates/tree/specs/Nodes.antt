@@ -97,3 +97,7 @@ position s k p t = length (nodeBytes s k (take p t))
 -- the root has a byte for each word, so a place is a position there
 abbrev pub rootPosition : Place → Position
 rootPosition place = record { 0 = place .0 }
+
+-- and the place of a position in the root
+abbrev pub rootPlace : Position → Place
+rootPlace at = record { 0 = at .0 }

@@ -3,7 +3,7 @@
 ghost use mathlib.Core.Path.{_≡_};
 ghost use Prim.Native.Nat.{_≤_, _<_};
 ghost use Rattle.dense.specs.Code.{Closing, maxVocabulary};
-ghost use Rattle.tree.specs.Nodes.{child, parent, digit, nodeCount, maxNodes, nodeOf, closingByte, PathOf, rootPosition};
+ghost use Rattle.tree.specs.Nodes.{child, parent, digit, nodeCount, maxNodes, nodeOf, closingByte, PathOf, rootPosition, rootPlace};
 
 // A place counts words of the text.
 pub struct Place(pub usize);
@@ -22,6 +22,13 @@ pub fn root_position(place: Place) -> Position
     ensures { λ r. ⌜ r ≡ rootPosition place ⌝ }
 {
     Position(place.0)
+}
+
+// The place of a position in the root.
+pub fn root_place(at: Position) -> Place
+    ensures { λ r. ⌜ r ≡ rootPlace at ⌝ }
+{
+    Place(at.0)
 }
 
 // The number of nodes of a vocabulary.

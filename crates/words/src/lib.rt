@@ -351,7 +351,7 @@ pub fn place_along(
     );
     if way.length == 1 {
         return Next {
-            place: Place(low.at.0),
+            place: tree::root_place(low.at),
             near: Near {
                 first: low.superblock,
                 second: 0,
@@ -372,7 +372,7 @@ pub fn place_along(
     );
     if way.length == 2 {
         return Next {
-            place: Place(middle.at.0),
+            place: tree::root_place(middle.at),
             near: Near {
                 first: low.superblock,
                 second: middle.superblock,
@@ -392,7 +392,7 @@ pub fn place_along(
         near.third,
     );
     Next {
-        place: Place(high.at.0),
+        place: tree::root_place(high.at),
         near: Near {
             first: low.superblock,
             second: middle.superblock,
@@ -431,5 +431,5 @@ pub fn place_of(
         near,
         j,
     );
-    Place(next.place.0)
+    next.place
 }
