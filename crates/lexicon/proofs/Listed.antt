@@ -10,12 +10,12 @@ use lib.Dec.{eqb, ltb}
 use lib.ListN.{length, take, drop, getD, set, length-take, length-drop, length-set, length-append, length-map, List·getD-map, List·getD-append}
 use lib.Seq.{drop-drop, take-all, take-add, getD-set-same, getD-set-other, getD-drop, ext-getD, getD-at, getD-append-add}
 use Rattle.base.proofs.Fronts.{length-front}
-use Rattle.base.proofs.Lists.{first-where-inside, getD-map}
-use Rattle.base.proofs.Ranges.{length-range, getD-range, pass-range, range-pass, filter-append}
+use Rattle.base.proofs.Lists.{first-where-inside, first-where-passes, filter-append, filter-most, filter-yes, filter-no, filter-either, getD-map}
+use Rattle.base.proofs.Ranges.{length-range, getD-range, pass-range, range-pass}
 use Rattle.base.proofs.Tests.{same-or-not, below-or-not, and-left, and-right, or-false, or-left, or-right, false-of}
 use Rattle.base.specs.Answers.{front}
 use Rattle.base.specs.Lists.{All, allPass, filterBy, firstWhere, rangeFrom}
-use Rattle.lexicon.proofs.Members.{first-where-passes, rank-below, distinct-at, distinct-place, rank-at, in-front, front-place, filter-most, filter-yes, filter-no, filter-either}
+use Rattle.lexicon.proofs.Members.{rank-below, distinct-at, distinct-place, rank-at, in-front, front-place}
 use Rattle.lexicon.proofs.Parts.{index-most, index-word, index-absent}
 use Rattle.lexicon.proofs.Scans.{words-first}
 use Rattle.lexicon.specs.Lexicon.{rankIn, isIn, distinct}
