@@ -4,8 +4,8 @@ use mathlib.Core.Path.{_≡_, refl, sym, ap, _∙_}
 use mathlib.Core.List.{List, _++_, append-assoc, [], _∷_, append-nil}
 use native.Mathlib.Omega.{arith}
 use native.Mathlib.Numerals.{add-one}
-use lib.ListN.{length, getD, take, drop, length-append, length-drop, take-append-drop, set}
-use lib.Seq.{paste, length-paste-head, take-all, take-append-seam, drop-append-add, drop-drop, drop-cons, getD-at, sets, sets-eq, take-at, drop-at, drop-length, take-suc, length-take-le, getD-set-same, getD-set-other}
+use lib.ListN.{length, getD, take, drop, length-append, length-drop, take-append-drop, set, List·getD-append}
+use lib.Seq.{paste, length-paste-head, take-all, take-append-seam, drop-append-add, drop-drop, drop-cons, getD-at, sets, sets-eq, take-at, drop-at, drop-length, take-suc, length-take-le, getD-set-same, getD-set-other, getD-drop, getD-append-add}
 use Rattle.base.specs.Answers.{front, written}
 use mathlib.Core.Logic.{_⊎_, inl, inr}
 use Rattle.base.proofs.Tests.{same-or-not}
@@ -66,6 +66,18 @@ take-front xs l = ap (take (length xs)) (front-is xs l) ∙ take-append-seam xs 
 -- a slice that begins with a list has it in front
 pub front-of-take : (xs l : List ℕ) → take (length xs) l ≡ xs → l ≡ front xs l
 front-of-take xs l e = sym (take-append-drop (length xs) l) ∙ ap (λ (t : List ℕ). t ++ drop (length xs) l) e ∙ sym (front-is xs l)
+
+-- the elements of a slice after its front is written: those that were written, and past them its own
+pub front-inside : (xs z : List ℕ) (i : ℕ) → i < length xs → getD (front xs z) i 0 ≡ getD xs i 0
+unfolding front
+front-inside xs z i h = List·getD-append xs (drop (length xs) z) 0 i h
+
+pub front-past : (xs z : List ℕ) (i : ℕ) → length xs ≤ i → getD (front xs z) i 0 ≡ getD z i 0
+unfolding front
+front-past xs z i h =
+    let e : length xs + (i - length xs) ≡ i = omega arith in
+    ap (λ (n : ℕ). getD (xs ++ drop (length xs) z) n 0) (sym e) ∙ getD-append-add xs (drop (length xs) z) (i - length xs) 0
+    ∙ getD-drop (length xs) z (i - length xs) 0 ∙ ap (λ (n : ℕ). getD z n 0) e
 
 -- behind what was written to the front
 pub drop-front : (xs l : List ℕ) (n : ℕ) → drop (length xs + n) (front xs l) ≡ drop (length xs + n) l
