@@ -1,6 +1,6 @@
 -- Laws of a slice that is written from a position on, and from its front on. Assumes nothing.
 use Prim.Native.Nat.{ℕ, suc, _+_, _-_, _≤_, _<_}
-use mathlib.Core.Path.{_≡_, refl, sym, ap, _∙_}
+use mathlib.Core.Path.{_≡_, refl, sym, ap, ap₂, _∙_}
 use mathlib.Core.List.{List, _++_, append-assoc, [], _∷_, append-nil}
 use native.Mathlib.Omega.{arith}
 use native.Mathlib.Numerals.{add-one}
@@ -23,6 +23,19 @@ unfolding written
 length-written xs z at h =
     length-append (take at z ++ xs) (drop (at + length xs) z)
     ∙ omega (arith, length-append (take at z) xs, length-take-le at z (omega arith), length-drop (at + length xs) z)
+
+-- a list written behind another is the two written at once
+pub written-more : (xs ys z : List ℕ) (at : ℕ) → at + length xs ≤ length z → written ys (at + length xs) (written xs at z) ≡ written (xs ++ ys) at z
+unfolding written
+written-more xs ys z at room =
+    let n : length (take at z ++ xs) ≡ at + length xs = length-append (take at z) xs ∙ ap (λ (k : ℕ). k + length xs) (length-take-le at z (omega arith)) in
+    let rest = drop (at + length xs) z in
+    let m : at + length xs + length ys ≡ at + length (xs ++ ys) = omega (arith, length-append xs ys) in
+    ap₂ (λ (p r : List ℕ). p ++ ys ++ r) (take-at (take at z ++ xs) rest (at + length xs) n)
+    (sym (drop-drop (length ys) (at + length xs) (take at z ++ xs ++ rest))
+    ∙ ap (drop (length ys)) (drop-at (take at z ++ xs) rest (at + length xs) n)
+    ∙ drop-drop (length ys) (at + length xs) z)
+    ∙ ap₂ (λ (p : List ℕ) (k : ℕ). p ++ drop k z) (append-assoc (take at z) xs ys) m
 
 -- nothing written, and the whole of what is written
 pub front-none : (z : List ℕ) → front [] z ≡ z
