@@ -1,11 +1,11 @@
 -- Laws of a slice that is written from a position on, and from its front on. Assumes nothing.
 use Prim.Native.Nat.{ℕ, suc, _+_, _-_, _≤_, _<_}
-use mathlib.Core.Path.{_≡_, refl, sym, ap, _∙_}
+use mathlib.Core.Path.{_≡_, refl, sym, ap, ap₂, _∙_}
 use mathlib.Core.List.{List, _++_, append-assoc, [], _∷_, append-nil}
 use native.Mathlib.Omega.{arith}
 use native.Mathlib.Numerals.{add-one}
-use lib.ListN.{length, getD, take, drop, length-append, length-drop, take-append-drop, set}
-use lib.Seq.{paste, length-paste-head, take-all, take-append-seam, drop-append-add, drop-drop, drop-cons, getD-at, sets, sets-eq, take-at, drop-at, drop-length, take-suc, length-take-le, getD-set-same, getD-set-other}
+use lib.ListN.{length, getD, take, drop, length-append, length-drop, take-append-drop, set, List·getD-append}
+use lib.Seq.{paste, length-paste-head, take-all, take-append-seam, drop-append-add, drop-drop, drop-cons, getD-at, sets, sets-eq, take-at, drop-at, drop-length, take-suc, length-take-le, getD-set-same, getD-set-other, getD-drop, getD-append-add}
 use Rattle.base.specs.Answers.{front, written}
 use mathlib.Core.Logic.{_⊎_, inl, inr}
 use Rattle.base.proofs.Tests.{same-or-not}
@@ -23,6 +23,19 @@ unfolding written
 length-written xs z at h =
     length-append (take at z ++ xs) (drop (at + length xs) z)
     ∙ omega (arith, length-append (take at z) xs, length-take-le at z (omega arith), length-drop (at + length xs) z)
+
+-- a list written behind another is the two written at once
+pub written-more : (xs ys z : List ℕ) (at : ℕ) → at + length xs ≤ length z → written ys (at + length xs) (written xs at z) ≡ written (xs ++ ys) at z
+unfolding written
+written-more xs ys z at room =
+    let n : length (take at z ++ xs) ≡ at + length xs = length-append (take at z) xs ∙ ap (λ (k : ℕ). k + length xs) (length-take-le at z (omega arith)) in
+    let rest = drop (at + length xs) z in
+    let m : at + length xs + length ys ≡ at + length (xs ++ ys) = omega (arith, length-append xs ys) in
+    ap₂ (λ (p r : List ℕ). p ++ ys ++ r) (take-at (take at z ++ xs) rest (at + length xs) n)
+    (sym (drop-drop (length ys) (at + length xs) (take at z ++ xs ++ rest))
+    ∙ ap (drop (length ys)) (drop-at (take at z ++ xs) rest (at + length xs) n)
+    ∙ drop-drop (length ys) (at + length xs) z)
+    ∙ ap₂ (λ (p : List ℕ) (k : ℕ). p ++ drop k z) (append-assoc (take at z) xs ys) m
 
 -- nothing written, and the whole of what is written
 pub front-none : (z : List ℕ) → front [] z ≡ z
@@ -66,6 +79,18 @@ take-front xs l = ap (take (length xs)) (front-is xs l) ∙ take-append-seam xs 
 -- a slice that begins with a list has it in front
 pub front-of-take : (xs l : List ℕ) → take (length xs) l ≡ xs → l ≡ front xs l
 front-of-take xs l e = sym (take-append-drop (length xs) l) ∙ ap (λ (t : List ℕ). t ++ drop (length xs) l) e ∙ sym (front-is xs l)
+
+-- the elements of a slice after its front is written: those that were written, and past them its own
+pub front-inside : (xs z : List ℕ) (i : ℕ) → i < length xs → getD (front xs z) i 0 ≡ getD xs i 0
+unfolding front
+front-inside xs z i h = List·getD-append xs (drop (length xs) z) 0 i h
+
+pub front-past : (xs z : List ℕ) (i : ℕ) → length xs ≤ i → getD (front xs z) i 0 ≡ getD z i 0
+unfolding front
+front-past xs z i h =
+    let e : length xs + (i - length xs) ≡ i = omega arith in
+    ap (λ (n : ℕ). getD (xs ++ drop (length xs) z) n 0) (sym e) ∙ getD-append-add xs (drop (length xs) z) (i - length xs) 0
+    ∙ getD-drop (length xs) z (i - length xs) 0 ∙ ap (λ (n : ℕ). getD z n 0) e
 
 -- behind what was written to the front
 pub drop-front : (xs l : List ℕ) (n : ℕ) → drop (length xs + n) (front xs l) ≡ drop (length xs + n) l

@@ -1,7 +1,7 @@
--- Laws of all elements of a list, of the first that passes a test, of equal lists, and of images. Assumes nothing.
+-- Laws of all elements of a list, of the first that passes a test, of those that pass it, of equal lists, and of images. Assumes nothing.
 use Prim.Native.Nat.{ℕ, zero, suc, _+_, _≤_, _<_}
 use mathlib.Core.Path.{_≡_, refl, sym, ap, ap₂, _∙_}
-use mathlib.Core.Bool.{Bool, true, false, cond, _&&_, not, false≢true}
+use mathlib.Core.Bool.{Bool, true, false, cond, _&&_, _||_, not, false≢true}
 use mathlib.Core.List.{List, [], _∷_, _++_, map}
 use native.Mathlib.Numerals.{add-one}
 use native.Mathlib.Omega.{arith}
@@ -9,7 +9,7 @@ use borrow.Author.Tests.{eq-eqb, eqb-true}
 use lib.Dec.{eqb}
 use lib.ListN.{length, take, drop, getD, length-drop}
 use lib.Seq.{getD-drop}
-use Rattle.base.specs.Lists.{All, Below, allPass, firstWhere, same}
+use Rattle.base.specs.Lists.{All, Below, allPass, filterBy, firstWhere, same}
 use Rattle.base.proofs.Tests.{and-left, and-right, and-true}
 
 -- ---- all elements
@@ -101,6 +101,66 @@ module _ {ℓ} {A : Type ℓ} (test : A → Bool) where
   first-where-length other h [] e = refl
   first-where-length other h (x ∷ xs) e =
       rw (h x, and-left (other x) (allPass other xs) e) (ap suc (first-where-length other h xs (and-right (other x) (allPass other xs) e)))
+
+  -- the first that passes stands no later than any that passes
+  pub first-where-most : (xs : List A) (d : A) (j : ℕ) → j < length xs → test (getD xs j d) ≡ true → firstWhere test xs ≤ j
+  first-where-most [] d j h e = absurd (omega arith)
+  first-where-most (x ∷ xs) d zero h e = rw e (omega arith)
+  first-where-most (x ∷ xs) d (suc j) h e = go (test x) (first-where-most xs d j (omega arith) e)
+    where
+      go : (t : Bool) → firstWhere test xs ≤ j → cond t 0 (suc (firstWhere test xs)) ≤ suc j
+      go true l = omega arith
+      go false l = omega arith
+
+  -- the first that passes does pass
+  pub first-where-passes : (xs : List A) (d : A) → firstWhere test xs < length xs → test (getD xs (firstWhere test xs) d) ≡ true
+  first-where-passes [] d h = absurd (omega arith)
+  first-where-passes (x ∷ xs) d h = go (test x) refl h (first-where-passes xs d)
+    where
+      go : (t : Bool) → test x ≡ t → cond t 0 (suc (firstWhere test xs)) < suc (length xs) → (firstWhere test xs < length xs → test (getD xs (firstWhere test xs) d) ≡ true)
+          → test (getD (x ∷ xs) (cond t 0 (suc (firstWhere test xs))) d) ≡ true
+      go true e h ih = e
+      go false e h ih = ih (omega arith)
+
+-- ---- those that pass a test
+
+-- of two lists
+pub filter-append {ℓ} : {A : Type ℓ} (test : A → Bool) (xs ys : List A) → filterBy test (xs ++ ys) ≡ filterBy test xs ++ filterBy test ys
+filter-append test [] ys = refl
+filter-append {A = A} test (x ∷ xs) ys = rw (filter-append test xs ys) (go (test x))
+  where
+    go : (t : Bool) → cond t (x ∷ (filterBy test xs ++ filterBy test ys)) (filterBy test xs ++ filterBy test ys) ≡ cond t (x ∷ filterBy test xs) (filterBy test xs) ++ filterBy test ys
+    go true = refl
+    go false = refl
+
+-- never more than there are
+pub filter-most {ℓ} : {A : Type ℓ} (test : A → Bool) (xs : List A) → length (filterBy test xs) ≤ length xs
+filter-most test [] = omega arith
+filter-most test (x ∷ xs) = go (test x) (filter-most test xs)
+  where
+    go : (t : Bool) → length (filterBy test xs) ≤ length xs → length (cond t (x ∷ filterBy test xs) (filterBy test xs)) ≤ suc (length xs)
+    go true h = omega arith
+    go false h = omega arith
+
+-- one more, which passes or not
+pub filter-yes {ℓ} : {A : Type ℓ} (test : A → Bool) (x : A) (xs : List A) → test x ≡ true → length (filterBy test (x ∷ xs)) ≡ suc (length (filterBy test xs))
+filter-yes test x xs e = rw e
+
+pub filter-no {ℓ} : {A : Type ℓ} (test : A → Bool) (x : A) (xs : List A) → test x ≡ false → length (filterBy test (x ∷ xs)) ≡ length (filterBy test xs)
+filter-no test x xs e = rw e
+
+-- of two tests that never hold both, the one or the other
+pub filter-either {ℓ} : {A : Type ℓ} (p q r : A → Bool) → ((x : A) → r x ≡ p x || q x) → ((x : A) → p x ≡ true → q x ≡ true → ⊥) → (xs : List A)
+    → length (filterBy r xs) ≡ length (filterBy p xs) + length (filterBy q xs)
+filter-either p q r e n [] = omega arith
+filter-either p q r e n (x ∷ xs) = go (p x) refl (q x) refl (filter-either p q r e n xs)
+  where
+    go : (s : Bool) → p x ≡ s → (t : Bool) → q x ≡ t → length (filterBy r xs) ≡ length (filterBy p xs) + length (filterBy q xs)
+        → length (filterBy r (x ∷ xs)) ≡ length (filterBy p (x ∷ xs)) + length (filterBy q (x ∷ xs))
+    go true a true b ih = absurd (n x a b)
+    go true a false b ih = omega (arith, filter-yes r x xs (e x ∙ ap (λ (t : Bool). t || q x) a), filter-yes p x xs a, filter-no q x xs b)
+    go false a true b ih = omega (arith, filter-yes r x xs (e x ∙ ap (λ (t : Bool). t || q x) a ∙ b), filter-no p x xs a, filter-yes q x xs b)
+    go false a false b ih = omega (arith, filter-no r x xs (e x ∙ ap (λ (t : Bool). t || q x) a ∙ b), filter-no p x xs a, filter-no q x xs b)
 
 -- ---- equal lists
 

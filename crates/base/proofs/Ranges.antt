@@ -10,7 +10,7 @@ use lib.ListN.{length, getD, length-map}
 use lib.Seq.{ext-getD}
 use Rattle.base.specs.Lists.{All, allPass, filterBy, rangeFrom}
 use Rattle.base.proofs.Tests.{same-or-not, false-of}
-use Rattle.base.proofs.Lists.{all-at, all-of-at, all-of-pass, pass-of-all}
+use Rattle.base.proofs.Lists.{all-at, all-of-at, all-of-pass, pass-of-all, filter-append, filter-most}
 
 pub length-range : (a n : ℕ) → length (rangeFrom a n) ≡ n
 length-range a zero = refl
@@ -109,15 +109,6 @@ module _ {ℓ} {A : Type ℓ} where
 
 -- ---- those that pass a test
 
--- of two lists
-pub filter-append {ℓ} : {A : Type ℓ} (test : A → Bool) (xs ys : List A) → filterBy test (xs ++ ys) ≡ filterBy test xs ++ filterBy test ys
-filter-append test [] ys = refl
-filter-append {A = A} test (x ∷ xs) ys = rw (filter-append test xs ys) (go (test x))
-  where
-    go : (t : Bool) → cond t (x ∷ (filterBy test xs ++ filterBy test ys)) (filterBy test xs ++ filterBy test ys) ≡ cond t (x ∷ filterBy test xs) (filterBy test xs) ++ filterBy test ys
-    go true = refl
-    go false = refl
-
 module _ (test : ℕ → Bool) where
   -- those of a range, split at any point
   pub filter-range-append : (a n m : ℕ) → filterBy test (rangeFrom a (n + m)) ≡ filterBy test (rangeFrom a n) ++ filterBy test (rangeFrom (a + n) m)
@@ -140,12 +131,7 @@ module _ (test : ℕ → Bool) where
 
   -- never more than there are numbers
   pub length-filter-range : (a n : ℕ) → length (filterBy test (rangeFrom a n)) ≤ n
-  length-filter-range a zero = omega arith
-  length-filter-range a (suc n) = go (test a) (length-filter-range (suc a) n)
-    where
-      go : (t : Bool) → length (filterBy test (rangeFrom (suc a) n)) ≤ n → length (cond t (a ∷ filterBy test (rangeFrom (suc a) n)) (filterBy test (rangeFrom (suc a) n))) ≤ suc n
-      go true h = omega arith
-      go false h = omega arith
+  length-filter-range a n = omega (arith, filter-most test (rangeFrom a n), length-range a n)
 
   -- what holds of each number of the range that passes holds of all that pass
   pub all-filter-range : (P : ℕ → Type 0) (a n : ℕ) → ((i : ℕ) → a ≤ i → i < a + n → test i ≡ true → P i) → All P (filterBy test (rangeFrom a n))

@@ -12,8 +12,7 @@ use lib.Seq.{take-suc, take-add}
 use Rattle.base.specs.Lists.{All, Below, total, allPass, filterBy, cutAfter}
 use Rattle.base.specs.Answers.{written, front}
 use Rattle.base.proofs.Fronts.{front-more}
-use Rattle.base.proofs.Lists.{all-imp, all-map, all-of-pass, pass-of-all, map-map}
-use Rattle.base.proofs.Ranges.{filter-append}
+use Rattle.base.proofs.Lists.{all-imp, all-map, all-of-pass, pass-of-all, filter-append, filter-most, map-map}
 use Rattle.base.proofs.Segments.{flatten-append, length-flatten, flatten-all}
 use Rattle.base.proofs.Cuts.{flatten-cut, Inner, cut-inner}
 use Rattle.dense.specs.Code.{Closing, continuing, closes, maxVocabulary, code, rankOf, Word, closing, going}
@@ -112,12 +111,7 @@ closings-part s i n bytes =
 -- never more than there are bytes
 pub closings-most : (s : ℕ) (bytes : List ℕ) → closings s bytes ≤ length bytes
 unfolding closings
-closings-most s [] = omega arith
-closings-most s (b ∷ bs) = go (closes s b) (closings-most s bs)
-  where
-    go : (t : Bool) → length (filterBy (closes s) bs) ≤ length bs → length (cond t (b ∷ filterBy (closes s) bs) (filterBy (closes s) bs)) ≤ suc (length bs)
-    go true h = omega arith
-    go false h = omega arith
+closings-most s bytes = filter-most (closes s) bytes
 
 -- codewords one after another have a closing byte each
 pub closings-words : (s : ℕ) (ws : List (List ℕ)) → All (Word s) ws → closings s (flatten ws) ≡ length ws

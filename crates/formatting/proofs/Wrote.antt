@@ -1,27 +1,14 @@
 -- Laws of what is written into a slice, one list behind another. Assumes nothing.
 use Prim.Native.Nat.{ℕ, _+_, _≤_, _<_}
 use mathlib.Core.Path.{_≡_, refl, sym, ap, ap₂, _∙_}
-use mathlib.Core.List.{List, [], _∷_, _++_, append-assoc, append-nil}
+use mathlib.Core.List.{List, [], _∷_, _++_, append-nil}
 use native.Mathlib.Omega.{arith}
 use native.Mathlib.Numerals.{add-one}
 use lib.ListN.{length, take, drop, getD, set, length-append, take-append-drop}
-use lib.Seq.{take-at, drop-at, drop-drop, take-suc, length-take-le}
+use lib.Seq.{take-suc, length-take-le}
 use Rattle.base.specs.Answers.{written, front}
-use Rattle.base.proofs.Fronts.{written-one, length-written}
+use Rattle.base.proofs.Fronts.{written-one, written-more, length-written}
 use Rattle.formatting.specs.Writing.{Wrote}
-
--- a list written behind another is the two written at once
-pub written-more : (xs ys z : List ℕ) (at : ℕ) → at + length xs ≤ length z → written ys (at + length xs) (written xs at z) ≡ written (xs ++ ys) at z
-unfolding written
-written-more xs ys z at room =
-    let n : length (take at z ++ xs) ≡ at + length xs = length-append (take at z) xs ∙ ap (λ (k : ℕ). k + length xs) (length-take-le at z (omega arith)) in
-    let rest = drop (at + length xs) z in
-    let m : at + length xs + length ys ≡ at + length (xs ++ ys) = omega (arith, length-append xs ys) in
-    ap₂ (λ (p r : List ℕ). p ++ ys ++ r) (take-at (take at z ++ xs) rest (at + length xs) n)
-    (sym (drop-drop (length ys) (at + length xs) (take at z ++ xs ++ rest))
-    ∙ ap (drop (length ys)) (drop-at (take at z ++ xs) rest (at + length xs) n)
-    ∙ drop-drop (length ys) (at + length xs) z)
-    ∙ ap₂ (λ (p : List ℕ) (k : ℕ). p ++ drop k z) (append-assoc (take at z) xs ys) m
 
 -- nothing is written
 pub wrote-none : (at : ℕ) (z : List ℕ) → Wrote [] at z at z

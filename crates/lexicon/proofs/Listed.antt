@@ -8,14 +8,14 @@ use native.Mathlib.Omega.{arith}
 use borrow.Author.Tests.{lt-ltb, le-ltb, ltb-true, eq-eqb, ne-eqb, eqb-true, not-true}
 use lib.Dec.{eqb, ltb}
 use lib.ListN.{length, take, drop, getD, set, length-take, length-drop, length-set, length-append, length-map, List·getD-map, List·getD-append}
-use lib.Seq.{drop-drop, take-all, take-add, getD-set-same, getD-set-other, getD-drop, ext-getD, getD-at, getD-append-add}
-use Rattle.base.proofs.Fronts.{length-front}
-use Rattle.base.proofs.Lists.{first-where-inside, getD-map}
-use Rattle.base.proofs.Ranges.{length-range, getD-range, pass-range, range-pass, filter-append}
+use lib.Seq.{drop-drop, take-all, take-add, getD-set-same, getD-set-other, getD-drop, ext-getD, getD-at}
+use Rattle.base.proofs.Fronts.{length-front, front-inside, front-past}
+use Rattle.base.proofs.Lists.{first-where-inside, first-where-passes, filter-append, filter-most, filter-yes, filter-no, filter-either, getD-map}
+use Rattle.base.proofs.Ranges.{length-range, getD-range, pass-range, range-pass}
 use Rattle.base.proofs.Tests.{same-or-not, below-or-not, and-left, and-right, or-false, or-left, or-right, false-of}
 use Rattle.base.specs.Answers.{front}
 use Rattle.base.specs.Lists.{All, allPass, filterBy, firstWhere, rangeFrom}
-use Rattle.lexicon.proofs.Members.{first-where-passes, rank-below, distinct-at, distinct-place, rank-at, in-front, front-place, filter-most, filter-yes, filter-no, filter-either}
+use Rattle.lexicon.proofs.Members.{rank-below, distinct-at, distinct-place, rank-at, in-front, front-place}
 use Rattle.lexicon.proofs.Parts.{index-most, index-word, index-absent}
 use Rattle.lexicon.proofs.Scans.{words-first}
 use Rattle.lexicon.specs.Lexicon.{rankIn, isIn, distinct}
@@ -422,18 +422,6 @@ module _ (table list : List ℕ) (from first k : ℕ) (stands : Stands table lis
           before-it false c =
               absurd (false≢true (sym (or-false (isIn (take first S) (word-at p)) (ltb 0 (indexIn table list from k (word-at p))) c (le-ltb 0 (indexIn table list from k (word-at p)) (omega arith)))
               ∙ sym (in-either table list from first stands k inside (word-at p)) ∙ e))
-
--- what stands in a slice after its front is written
-pub front-inside : (xs z : List ℕ) (i : ℕ) → i < length xs → getD (front xs z) i 0 ≡ getD xs i 0
-unfolding front
-front-inside xs z i h = List·getD-append xs (drop (length xs) z) 0 i h
-
-pub front-past : (xs z : List ℕ) (i : ℕ) → length xs ≤ i → getD (front xs z) i 0 ≡ getD z i 0
-unfolding front
-front-past xs z i h =
-    let e : length xs + (i - length xs) ≡ i = omega arith in
-    ap (λ (n : ℕ). getD (xs ++ drop (length xs) z) n 0) (sym e) ∙ getD-append-add xs (drop (length xs) z) (i - length xs) 0
-    ∙ getD-drop (length xs) z (i - length xs) 0 ∙ ap (λ (n : ℕ). getD z n 0) e
 
 -- all words are among all, so all ranks are written
 pub ranks-all : (words : List (List ℕ)) (ws : List Word) (n : ℕ) (before after : List ℕ) → length words ≤ n → length ws ≤ length before

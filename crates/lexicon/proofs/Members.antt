@@ -1,40 +1,17 @@
 -- Laws of words that are in a list of words, once or not at all. Assumes nothing.
-use Prim.Native.Nat.{ℕ, zero, suc, _+_, _≤_, _<_, min}
+use Prim.Native.Nat.{ℕ, zero, suc, _≤_, _<_, min}
 use mathlib.Core.Path.{_≡_, refl, sym, ap, _∙_}
-use mathlib.Core.Bool.{Bool, true, false, cond, not, _||_, false≢true}
+use mathlib.Core.Bool.{true, false, not, false≢true}
 use mathlib.Core.Logic.{_⊎_, inl, inr}
 use mathlib.Core.List.{List, [], _∷_}
 use native.Mathlib.Omega.{arith}
 use borrow.Author.Tests.{lt-ltb, ltb-true, not-true}
 use lib.ListN.{length, take, getD, length-take}
 use lib.Seq.{getD-take}
-use Rattle.base.specs.Lists.{firstWhere, filterBy, same}
+use Rattle.base.specs.Lists.{firstWhere, same}
 use Rattle.base.proofs.Tests.{below-or-not, and-left, and-right, and-true, false-of}
-use Rattle.base.proofs.Lists.{same-yes, same-true}
+use Rattle.base.proofs.Lists.{first-where-most, first-where-passes, same-yes, same-true}
 use Rattle.lexicon.specs.Lexicon.{rankIn, isIn, distinct}
-
--- ---- the first that passes a test
-
-module _ {ℓ} {A : Type ℓ} (test : A → Bool) where
-  -- it stands no later than any that passes
-  pub first-where-most : (xs : List A) (d : A) (j : ℕ) → j < length xs → test (getD xs j d) ≡ true → firstWhere test xs ≤ j
-  first-where-most [] d j h e = absurd (omega arith)
-  first-where-most (x ∷ xs) d zero h e = rw e (omega arith)
-  first-where-most (x ∷ xs) d (suc j) h e = go (test x) (first-where-most xs d j (omega arith) e)
-    where
-      go : (t : Bool) → firstWhere test xs ≤ j → cond t 0 (suc (firstWhere test xs)) ≤ suc j
-      go true l = omega arith
-      go false l = omega arith
-
-  -- it passes
-  pub first-where-passes : (xs : List A) (d : A) → firstWhere test xs < length xs → test (getD xs (firstWhere test xs) d) ≡ true
-  first-where-passes [] d h = absurd (omega arith)
-  first-where-passes (x ∷ xs) d h = go (test x) refl h (first-where-passes xs d)
-    where
-      go : (t : Bool) → test x ≡ t → cond t 0 (suc (firstWhere test xs)) < suc (length xs) → (firstWhere test xs < length xs → test (getD xs (firstWhere test xs) d) ≡ true)
-          → test (getD (x ∷ xs) (cond t 0 (suc (firstWhere test xs))) d) ≡ true
-      go true e h ih = e
-      go false e h ih = ih (omega arith)
 
 -- ---- members
 
@@ -98,34 +75,3 @@ front-place ws w n e =
     let m : length (take n ws) ≡ min n (length ws) = length-take n ws in
     let l : rankIn (take n ws) w < n = omega arith in
     (l, omega arith, rank-stands (take n ws) w e ∙ getD-take n ws (rankIn (take n ws) w) [] l)
-
--- ---- how many pass a test
-
--- never more than there are
-pub filter-most {ℓ} : {A : Type ℓ} (test : A → Bool) (xs : List A) → length (filterBy test xs) ≤ length xs
-filter-most test [] = omega arith
-filter-most test (x ∷ xs) = go (test x) (filter-most test xs)
-  where
-    go : (t : Bool) → length (filterBy test xs) ≤ length xs → length (cond t (x ∷ filterBy test xs) (filterBy test xs)) ≤ suc (length xs)
-    go true h = omega arith
-    go false h = omega arith
-
--- one more, which passes or not
-pub filter-yes {ℓ} : {A : Type ℓ} (test : A → Bool) (x : A) (xs : List A) → test x ≡ true → length (filterBy test (x ∷ xs)) ≡ suc (length (filterBy test xs))
-filter-yes test x xs e = rw e
-
-pub filter-no {ℓ} : {A : Type ℓ} (test : A → Bool) (x : A) (xs : List A) → test x ≡ false → length (filterBy test (x ∷ xs)) ≡ length (filterBy test xs)
-filter-no test x xs e = rw e
-
--- of two tests that never hold both, the one or the other
-pub filter-either {ℓ} : {A : Type ℓ} (p q r : A → Bool) → ((x : A) → r x ≡ p x || q x) → ((x : A) → p x ≡ true → q x ≡ true → ⊥) → (xs : List A)
-    → length (filterBy r xs) ≡ length (filterBy p xs) + length (filterBy q xs)
-filter-either p q r e n [] = omega arith
-filter-either p q r e n (x ∷ xs) = go (p x) refl (q x) refl (filter-either p q r e n xs)
-  where
-    go : (s : Bool) → p x ≡ s → (t : Bool) → q x ≡ t → length (filterBy r xs) ≡ length (filterBy p xs) + length (filterBy q xs)
-        → length (filterBy r (x ∷ xs)) ≡ length (filterBy p (x ∷ xs)) + length (filterBy q (x ∷ xs))
-    go true a true b ih = absurd (n x a b)
-    go true a false b ih = omega (arith, filter-yes r x xs (e x ∙ ap (λ (t : Bool). t || q x) a), filter-yes p x xs a, filter-no q x xs b)
-    go false a true b ih = omega (arith, filter-yes r x xs (e x ∙ ap (λ (t : Bool). t || q x) a ∙ b), filter-no p x xs a, filter-yes q x xs b)
-    go false a false b ih = omega (arith, filter-no r x xs (e x ∙ ap (λ (t : Bool). t || q x) a ∙ b), filter-no p x xs a, filter-no q x xs b)

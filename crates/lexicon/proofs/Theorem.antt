@@ -10,7 +10,7 @@ use lib.Dec.{ltb}
 use lib.ListN.{length, take, drop, getD, length-drop, length-map, List·getD-eq-default}
 use lib.Seq.{getD-drop, getD-take, take-append-seam, drop-append-seam}
 use Rattle.base.proofs.Answers.{filled-not, filled-front, fills-front}
-use Rattle.base.proofs.Lists.{all-at, all-of-at, all-imp, all-of-pass, pass-of-all, first-where-inside, getD-map}
+use Rattle.base.proofs.Lists.{all-at, all-of-at, all-imp, all-of-pass, pass-of-all, first-where-inside, first-where-most, first-where-passes, getD-map}
 use Rattle.base.proofs.Tests.{same-or-not, below-or-not, and-left, and-true}
 use Rattle.base.specs.Answers.{accepted, refused, refusedAt, firstOf, _⇒_}
 use Rattle.base.specs.Lists.{All, allPass, firstWhere}
@@ -19,7 +19,7 @@ use Rattle.base.specs.Texts.{maxWords, outside, wordsCase}
 use Rattle.base.specs.declared.Answer.{Answer}
 use Rattle.dense.specs.Code.{vocabularyCase, maxVocabulary}
 use Rattle.lexicon.proofs.Calls.{accepts-accepted, accepted-accepts}
-use Rattle.lexicon.proofs.Members.{first-where-most, first-where-passes, rank-below, rank-stands}
+use Rattle.lexicon.proofs.Members.{rank-below, rank-stands}
 use Rattle.lexicon.proofs.Parts.{some-left}
 use Rattle.lexicon.proofs.Scans.{Letter, gap-more, gap-none, run-none, run-more, start-least, begins, words-end, words-after, Next, next, words-first}
 use Rattle.lexicon.proofs.Tables.{letters-rule, table-entry}

@@ -5,7 +5,8 @@ use mathlib.Core.Bool.{Bool, true, cond}
 use mathlib.Core.List.{List, [], _∷_, _++_, map, map-append}
 use native.Mathlib.Omega.{arith}
 use Rattle.base.specs.Lists.{filterBy, rangeFrom}
-use Rattle.base.proofs.Ranges.{range-append, filter-append}
+use Rattle.base.proofs.Lists.{filter-append}
+use Rattle.base.proofs.Ranges.{range-append}
 
 -- the candidates at which P holds, of the k candidates from a number on
 abbrev pub along : (ℕ → Bool) → (ℕ → ℕ) → ℕ → ℕ → List ℕ

@@ -11,7 +11,8 @@ use lib.ListN.{length, take, getD}
 use Rattle.base.specs.Lists.{All, filterBy, rangeFrom, countOf}
 use Rattle.base.proofs.Tests.{same-or-not}
 use Rattle.base.proofs.Counts.{count-hit, count-miss}
-use Rattle.base.proofs.Ranges.{map-range-suc, filter-append}
+use Rattle.base.proofs.Lists.{filter-append}
+use Rattle.base.proofs.Ranges.{map-range-suc}
 use Rattle.tree.specs.Nodes.{firstByte, through, reaching}
 
 -- a codeword that begins with e comes through it, another does not
