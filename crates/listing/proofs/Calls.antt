@@ -2,15 +2,14 @@
 use Prim.Native.Nat.{ℕ, _+_, _≤_}
 use mathlib.Core.Path.{_≡_, refl, sym, ap, _∙_}
 use mathlib.Core.Bool.{true, not}
-use mathlib.Core.List.{List, [], _∷_, _++_}
+use mathlib.Core.List.{List}
 use native.Mathlib.Omega.{arith}
 use borrow.Author.Tests.{le-ltb, ne-eqb, eqb-false}
-use lib.Dec.{eqb, ltb}
+use lib.Dec.{ltb}
 use lib.ListN.{length, drop, length-take, length-drop}
 use Rattle.base.specs.declared.Answer.{Answer}
-use Rattle.base.specs.Refusals.{refusalPlace, refusalPage}
 use Rattle.base.specs.Lists.{Below}
-use Rattle.base.specs.Answers.{accepted, refused, isAccepted, _⇒_, NoneHolds, filled}
+use Rattle.base.specs.Answers.{accepted, isAccepted, NoneHolds, filled}
 use Rattle.base.specs.Texts.{maxPhrase, outside, ranksBelow}
 use Rattle.base.proofs.Tests.{or-false, inside-range}
 use Rattle.base.proofs.Answers.{none-holds, answers, none-append}
@@ -25,13 +24,13 @@ use Rattle.pages.specs.Runs.{IsPage}
 use Rattle.questions.specs.Answering.{phraseIn, phraseCases, rankAskedCase}
 use Rattle.questions.proofs.Read.{index-tests}
 use Rattle.listing.specs.declared.Listing.{Listing}
-use Rattle.listing.specs.Paging.{Call, callText, callPhrase, callPage, pageCases, pageAnswer, pageOf}
+use Rattle.listing.specs.Paging.{Call, callText, callPhrase, callPage, requestCases, pageCases, pageAnswer, pageOf}
 use Rattle.listing.specs.Completeness.{outcomeOf, IsPart, Brings}
 
 -- an accepted call is a page over the places of its own text
 pub own-page : (call : Call) (state : Listing) → isAccepted (pageAnswer call state) ≡ true
     → IsPage (λ (st : Listing). st .next) (λ (st : Listing). st .finished) (stands (callText call) (callPhrase call)) (length (callText call)) (call .lines) state (outcomeOf call state)
-unfolding pageOf pageAnswer pageCases callPage indexCases phraseCases vocabularyCase blocksCase rankAskedCase filled
+unfolding pageOf pageAnswer pageCases requestCases callPage indexCases phraseCases vocabularyCase blocksCase rankAskedCase filled
 own-page call state h =
     let n = none-holds (pageCases call state) (accepted (length (callPage call state .found))) (refl, (refl, (refl, (refl, (refl, (refl, (refl, tt))))))) h in
     let e : pageAnswer call state ≡ accepted (length (callPage call state .found)) = answers (pageCases call state) (accepted (length (callPage call state .found))) n in
@@ -57,12 +56,11 @@ phrase-tests vocab words start len phrase part some most below =
 -- a call that brings the phrase and arrays that pass is accepted over a state whose next place is not above n, with a page of one line or more
 module _ (s : ℕ) (shape : Shape) (a : Arrays) (phrase : List ℕ) (passed : checkAnswer s shape a ≡ accepted 0) (some : 1 ≤ length phrase) (most : length phrase ≤ maxPhrase) (below : Below (shape .vocabulary) phrase) where
   pub call-accepted : (call : Call) (state : Listing) → Brings s shape a phrase call → 1 ≤ length (call .lines) → state .next ≤ length (textIn s a) → isAccepted (pageAnswer call state) ≡ true
-  unfolding pageAnswer pageCases
+  unfolding pageAnswer pageCases requestCases
   call-accepted call state b lines inside =
       ap isAccepted (answers (pageCases call state) (accepted (length (callPage call state .found)))
-      (none-append (indexCases (call .closing) (call .shape) (call .arrays) ++ phraseCases (call .shape .vocabulary) (call .words) (call .start) (call .len))
-      ((ltb (length (callText call)) (state .next) ⇒ refused refusalPlace) ∷ (eqb (length (call .lines)) 0 ⇒ refused refusalPage) ∷ [])
-      (none-append (indexCases (call .closing) (call .shape) (call .arrays)) (phraseCases (call .shape .vocabulary) (call .words) (call .start) (call .len))
+      (none-append (indexCases (call .closing) (call .shape) (call .arrays)) _
       (rw (b .sameClosing, b .sameShape, b .sameArrays) (index-tests s shape a passed))
-      (rw (b .sameShape) (phrase-tests (shape .vocabulary) (call .words) (call .start) (call .len) phrase (b .samePhrase) some most below)))
-      (le-ltb (length (callText call)) (state .next) (rw (b .sameClosing, b .sameArrays) inside), (ne-eqb (length (call .lines)) 0 (λ q. omega arith), tt))))
+      (none-append (phraseCases (call .shape .vocabulary) (call .words) (call .start) (call .len)) _
+      (rw (b .sameShape) (phrase-tests (shape .vocabulary) (call .words) (call .start) (call .len) phrase (b .samePhrase) some most below))
+      (le-ltb (length (callText call)) (state .next) (rw (b .sameClosing, b .sameArrays) inside), (ne-eqb (length (call .lines)) 0 (λ q. omega arith), tt)))))

@@ -2,8 +2,8 @@
 use Prim.Native.Nat.{ℕ, _≤_, _<_}
 use mathlib.Core.Path.{_≡_, refl, sym, ap, _∙_}
 use mathlib.Core.Bool.{true, false}
-use mathlib.Core.List.{List, [], _∷_, _++_}
-use borrow.Author.Tests.{eq-eqb, ne-eqb, lt-ltb, le-ltb}
+use mathlib.Core.List.{List, [], _∷_}
+use borrow.Author.Tests.{eq-eqb, ne-eqb, lt-ltb, le-ltb, ltb-false}
 use lib.Dec.{eqb, ltb}
 use lib.ListN.{length}
 use Rattle.base.specs.declared.Answer.{Answer}
@@ -23,12 +23,50 @@ use Rattle.questions.specs.Answering.{phraseIn, phraseCases, phraseRefusal, phr
 use Rattle.questions.proofs.Answered.{phrase-refused}
 use Rattle.listing.specs.declared.Listing.{Listing}
 use Rattle.listing.specs.declared.Page.{Page}
-use Rattle.listing.specs.Paging.{Call, callText, callPhrase, callPage, pageCases, pageAnswer, PageResult, pageOf}
+use Rattle.listing.specs.Paging.{Call, callText, callPhrase, callPage, unwritten, requestCases, requestAnswer, pageCases, pageAnswer, PageResult, pageOf}
+
+-- the tests after those of the index, case by case
+module _ (vocab : ℕ) (words : List ℕ) (start len n next room : ℕ) where
+  -- the tests after those of the phrase
+  abbrev rest : List Case
+  rest = (ltb n next ⇒ refused refusalPlace) ∷ (eqb room 0 ⇒ refused refusalPage) ∷ []
+
+  -- the tests of the phrase decide
+  pub request-phrase : (phraseRefusal vocab words start len ≡ 0 → ⊥) → requestAnswer vocab words start len n next room ≡ refused (phraseRefusal vocab words start len)
+  unfolding requestAnswer requestCases phraseAnswer
+  request-phrase h =
+      let ph = phraseCases vocab words start len in
+      let no = phrase-refused vocab words start len [] h in
+      first-append ph rest (accepted 0)
+      ∙ first-decided ph (accepted (length (places [] (phraseIn words start len)))) (firstOf rest (accepted 0)) refl (ap isAccepted no ∙ ne-eqb (phraseRefusal vocab words start len) 0 h)
+      ∙ no
+
+  module _ (f : phraseRefusal vocab words start len ≡ 0) where
+    -- or leave it to the last two
+    after-phrase : requestAnswer vocab words start len n next room ≡ firstOf rest (accepted 0)
+    unfolding requestAnswer requestCases phraseRefusal phraseCases rankAskedCase
+    after-phrase =
+        let ph = phraseCases vocab words start len in
+        first-append ph rest (accepted 0)
+        ∙ answers ph (firstOf rest (accepted 0)) (none-holds ph (accepted 0) (refl, (refl, tt)) (eq-eqb (phraseRefusal vocab words start len) 0 f))
+
+    pub request-place : n < next → requestAnswer vocab words start len n next room ≡ refused refusalPlace
+    request-place h = after-phrase ∙ first-here (ltb n next) (refused refusalPlace) ((eqb room 0 ⇒ refused refusalPage) ∷ []) (accepted 0) (lt-ltb n next h)
+
+    module _ (inside : next ≤ n) where
+      pub request-page : room ≡ 0 → requestAnswer vocab words start len n next room ≡ refused refusalPage
+      request-page h =
+          after-phrase
+          ∙ first-later (ltb n next) (refused refusalPlace) ((eqb room 0 ⇒ refused refusalPage) ∷ []) (accepted 0) (le-ltb n next inside)
+          ∙ first-here (eqb room 0) (refused refusalPage) [] (accepted 0) (eq-eqb room 0 h)
+
+      pub request-none : (room ≡ 0 → ⊥) → requestAnswer vocab words start len n next room ≡ accepted 0
+      request-none h = after-phrase ∙ answers rest (accepted 0) (le-ltb n next inside, (ne-eqb room 0 h, tt))
 
 module _ (call : Call) (state : Listing) where
   -- a refused call hands back its state and leaves its slice
   pub page-refused : (r : Answer) → pageAnswer call state ≡ r → isAccepted r ≡ false
-      → _≡_ {A = PageResult} (record { page = record { answer = r; more = false; listing = state }; lines = call .lines }) (pageOf call state)
+      → _≡_ {A = PageResult} (record { page = unwritten r state; lines = call .lines }) (pageOf call state)
   unfolding pageOf filled
   page-refused r e h = sym (rw (e, h))
 
@@ -43,69 +81,62 @@ module _ (call : Call) (state : Listing) where
   unfolding pageOf filled
   page-accepted e = sym (rw e)
 
-  -- the tests after those of the index and of the phrase
-  abbrev rest : List Case
-  rest = (ltb (length (callText call)) (state .next) ⇒ refused refusalPlace) ∷ (eqb (length (call .lines)) 0 ⇒ refused refusalPage) ∷ []
+  -- the tests after those of the index, and their answer
+  abbrev request : List Case
+  request = requestCases (call .shape .vocabulary) (call .words) (call .start) (call .len) (length (callText call)) (state .next) (length (call .lines))
+
+  abbrev asked : Answer
+  asked = requestAnswer (call .shape .vocabulary) (call .words) (call .start) (call .len) (length (callText call)) (state .next) (length (call .lines))
 
   -- the tests of the index decide
   pub by-index : (checkAnswer (call .closing) (call .shape) (call .arrays) .refusal ≡ 0 → ⊥) → pageAnswer call state ≡ checkAnswer (call .closing) (call .shape) (call .arrays)
   unfolding pageAnswer pageCases checkAnswer
   by-index h =
       let ix = indexCases (call .closing) (call .shape) (call .arrays) in
-      let ph = phraseCases (call .shape .vocabulary) (call .words) (call .start) (call .len) in
       let done = accepted (length (callPage call state .found)) in
-      first-append (ix ++ ph) rest done ∙ first-append ix ph (firstOf rest done)
-      ∙ first-decided ix (accepted 0) (firstOf ph (firstOf rest done)) refl (ne-eqb (checkAnswer (call .closing) (call .shape) (call .arrays) .refusal) 0 h)
-
-  -- or leave it to those of the phrase
-  after-index : checkAnswer (call .closing) (call .shape) (call .arrays) .refusal ≡ 0
-      → pageAnswer call state ≡ firstOf (phraseCases (call .shape .vocabulary) (call .words) (call .start) (call .len)) (firstOf rest (accepted (length (callPage call state .found))))
-  unfolding pageAnswer pageCases checkAnswer indexCases vocabularyCase blocksCase
-  after-index e =
-      let ix = indexCases (call .closing) (call .shape) (call .arrays) in
-      let ph = phraseCases (call .shape .vocabulary) (call .words) (call .start) (call .len) in
-      let done = accepted (length (callPage call state .found)) in
-      first-append (ix ++ ph) rest done ∙ first-append ix ph (firstOf rest done)
-      ∙ answers ix (firstOf ph (firstOf rest done)) (none-holds ix (accepted 0) (refl, (refl, (refl, tt))) (eq-eqb (checkAnswer (call .closing) (call .shape) (call .arrays) .refusal) 0 e))
+      first-append ix request done
+      ∙ first-decided ix (accepted 0) (firstOf request done) refl (ne-eqb (checkAnswer (call .closing) (call .shape) (call .arrays) .refusal) 0 h)
 
   module _ (e : checkAnswer (call .closing) (call .shape) (call .arrays) .refusal ≡ 0) where
-    -- the tests of the phrase decide
-    pub by-phrase : (phraseRefusal (call .shape .vocabulary) (call .words) (call .start) (call .len) ≡ 0 → ⊥)
-        → pageAnswer call state ≡ refused (phraseRefusal (call .shape .vocabulary) (call .words) (call .start) (call .len))
-    unfolding phraseAnswer
-    by-phrase h =
-        let ph = phraseCases (call .shape .vocabulary) (call .words) (call .start) (call .len) in
+    -- or leave it to those after them
+    after-index : pageAnswer call state ≡ firstOf request (accepted (length (callPage call state .found)))
+    unfolding pageAnswer pageCases checkAnswer indexCases vocabularyCase blocksCase
+    after-index =
+        let ix = indexCases (call .closing) (call .shape) (call .arrays) in
         let done = accepted (length (callPage call state .found)) in
-        let no = phrase-refused (call .shape .vocabulary) (call .words) (call .start) (call .len) [] h in
-        after-index e
-        ∙ first-decided ph (accepted (length (places [] (phraseIn (call .words) (call .start) (call .len))))) (firstOf rest done) refl (ap isAccepted no ∙ ne-eqb (phraseRefusal (call .shape .vocabulary) (call .words) (call .start) (call .len)) 0 h)
-        ∙ no
+        first-append ix request done
+        ∙ answers ix (firstOf request done) (none-holds ix (accepted 0) (refl, (refl, (refl, tt))) (eq-eqb (checkAnswer (call .closing) (call .shape) (call .arrays) .refusal) 0 e))
 
-    module _ (f : phraseRefusal (call .shape .vocabulary) (call .words) (call .start) (call .len) ≡ 0) where
-      -- or leave it to the last two
-      after-phrase : pageAnswer call state ≡ firstOf rest (accepted (length (callPage call state .found)))
-      unfolding phraseRefusal phraseCases rankAskedCase
-      after-phrase =
-          let ph = phraseCases (call .shape .vocabulary) (call .words) (call .start) (call .len) in
-          let done = accepted (length (callPage call state .found)) in
-          after-index e
-          ∙ answers ph (firstOf rest done) (none-holds ph (accepted 0) (refl, (refl, tt)) (eq-eqb (phraseRefusal (call .shape .vocabulary) (call .words) (call .start) (call .len)) 0 f))
+    -- which decide
+    pub by-request : (asked .refusal ≡ 0 → ⊥) → pageAnswer call state ≡ asked
+    unfolding requestAnswer
+    by-request h = after-index ∙ first-decided request (accepted 0) (accepted (length (callPage call state .found))) refl (ne-eqb (asked .refusal) 0 h)
 
-      pub by-place : length (callText call) < state .next → pageAnswer call state ≡ refused refusalPlace
-      by-place h = after-phrase ∙ first-here (ltb (length (callText call)) (state .next)) (refused refusalPlace) ((eqb (length (call .lines)) 0 ⇒ refused refusalPage) ∷ []) (accepted (length (callPage call state .found))) (lt-ltb (length (callText call)) (state .next) h)
+    -- or leave the call accepted
+    pub taken : asked .refusal ≡ 0 → pageAnswer call state ≡ accepted (length (callPage call state .found))
+    unfolding requestAnswer requestCases phraseCases rankAskedCase
+    taken h =
+        after-index
+        ∙ answers request (accepted (length (callPage call state .found))) (none-holds request (accepted 0) (refl, (refl, (refl, (refl, tt)))) (eq-eqb (asked .refusal) 0 h))
 
-      module _ (inside : state .next ≤ length (callText call)) where
-        pub by-lines : length (call .lines) ≡ 0 → pageAnswer call state ≡ refused refusalPage
-        by-lines h =
-            let done = accepted (length (callPage call state .found)) in
-            after-phrase
-            ∙ first-later (ltb (length (callText call)) (state .next)) (refused refusalPlace) ((eqb (length (call .lines)) 0 ⇒ refused refusalPage) ∷ []) done (le-ltb (length (callText call)) (state .next) inside)
-            ∙ first-here (eqb (length (call .lines)) 0) (refused refusalPage) [] done (eq-eqb (length (call .lines)) 0 h)
+  -- what holds of an accepted call: its index passes, its phrase is not refused, its next place is not above n, it answers with its hits
+  pub record Accepted : Type 0 where
+    pub index : checkAnswer (call .closing) (call .shape) (call .arrays) .refusal ≡ 0
+    pub phrase : phraseRefusal (call .shape .vocabulary) (call .words) (call .start) (call .len) ≡ 0
+    pub inside : state .next ≤ length (callText call)
+    pub answerIs : pageAnswer call state ≡ accepted (length (callPage call state .found))
 
-        pub taken : (length (call .lines) ≡ 0 → ⊥) → pageAnswer call state ≡ accepted (length (callPage call state .found))
-        taken h =
-            after-phrase
-            ∙ answers rest (accepted (length (callPage call state .found))) (le-ltb (length (callText call)) (state .next) inside, (ne-eqb (length (call .lines)) 0 h, tt))
+  pub accepted-call : isAccepted (pageAnswer call state) ≡ true → Accepted
+  unfolding pageAnswer pageCases requestCases checkAnswer indexCases phraseRefusal phraseCases vocabularyCase blocksCase rankAskedCase
+  accepted-call h =
+      let done = accepted (length (callPage call state .found)) in
+      let n = none-holds (pageCases call state) done (refl, (refl, (refl, (refl, (refl, (refl, (refl, tt))))))) h in
+      record {
+        index = ap (λ (x : Answer). x .refusal) (answers (indexCases (call .closing) (call .shape) (call .arrays)) (accepted 0) (n .0, (n .1 .0, (n .1 .1 .0, tt))));
+        phrase = ap (λ (x : Answer). x .refusal) (answers (phraseCases (call .shape .vocabulary) (call .words) (call .start) (call .len)) (accepted 0) (n .1 .1 .1 .0, (n .1 .1 .1 .1 .0, tt)));
+        inside = ltb-false (length (callText call)) (state .next) (n .1 .1 .1 .1 .1 .0);
+        answerIs = answers (pageCases call state) done n;
+      }
 
   -- what an accepted call returns and leaves in its slice, of what the search has written
   pub page-written : pageAnswer call state ≡ accepted (length (callPage call state .found)) → (w : Written) (slice : List ℕ)
@@ -118,7 +149,7 @@ module _ (call : Call) (state : Listing) where
 
   -- over a finished state nothing is written, and the state comes back the same
   pub page-finished : pageAnswer call state ≡ accepted (length (callPage call state .found)) → state .finished ≡ true
-      → (_≡_ {A = Page} (record { answer = accepted 0; more = false; listing = state }) (pageOf call state .page)) × (call .lines ≡ pageOf call state .lines)
+      → (unwritten (accepted 0) state ≡ pageOf call state .page) × (call .lines ≡ pageOf call state .lines)
   unfolding callPage
   page-finished e f =
       let m = made-finished (stands (callText call) (callPhrase call)) (length (callText call)) (state .next) (call .lines) in

@@ -21,6 +21,10 @@ use Rattle.listing.specs.declared.Page.{Page}
 abbrev pub opened : Listing
 opened = record { next = 0; finished = false }
 
+-- a page that writes nothing and reports nothing more: its answer, and the state as it came
+abbrev pub unwritten : Answer → Listing → Page
+unwritten answer state = record { answer = answer; more = false; listing = state }
+
 -- what a page call brings beside the state: its number of closing values, V, B and b, the four slices, the lent words with the phrase's
 -- part, and what the page's slice holds; its elements are the lines of the page
 pub record Call : Type 0 where
@@ -50,14 +54,23 @@ unfoldable pub callPage : Call → Listing → Pages.Page
 callPage call state =
     pageOver (stands (callText call) (callPhrase call)) (length (callText call)) (length (call .lines)) (state .next) (state .finished)
 
--- the refusals of a page call, in the order tried: of the index, of the phrase, a next place above n, a page of length 0
+-- the refusals of a page call after those of the index, in the order tried: of the phrase, a next place above n, a page of length 0
+unfoldable pub requestCases : ℕ → List ℕ → ℕ → ℕ → ℕ → ℕ → ℕ → List Case
+requestCases vocab words start len n next room =
+    phraseCases vocab words start len
+    ++ (ltb n next ⇒ refused refusalPlace)
+    ∷ (eqb room 0 ⇒ refused refusalPage)
+    ∷ []
+
+-- the answer of these tests: the first refusal, and 0 accepted where there is none
+unfoldable pub requestAnswer : ℕ → List ℕ → ℕ → ℕ → ℕ → ℕ → ℕ → Answer
+requestAnswer vocab words start len n next room = firstOf (requestCases vocab words start len n next room) (accepted 0)
+
+-- the refusals of a page call, in the order tried: of the index, then of what it asks for
 unfoldable pub pageCases : Call → Listing → List Case
 pageCases call state =
     indexCases (call .closing) (call .shape) (call .arrays)
-    ++ phraseCases (call .shape .vocabulary) (call .words) (call .start) (call .len)
-    ++ (ltb (length (callText call)) (state .next) ⇒ refused refusalPlace)
-    ∷ (eqb (length (call .lines)) 0 ⇒ refused refusalPage)
-    ∷ []
+    ++ requestCases (call .shape .vocabulary) (call .words) (call .start) (call .len) (length (callText call)) (state .next) (length (call .lines))
 
 -- the answer of a page call: the number of hits written
 unfoldable pub pageAnswer : Call → Listing → Answer

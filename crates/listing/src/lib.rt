@@ -1,8 +1,10 @@
 // A listing of the places where a phrase stands, page by page.
 ghost use mathlib.Core.Path.{_≡_};
+ghost use mathlib.Core.Bool.{true, false};
+ghost use Rattle.base.specs.Answers.{isAccepted};
 ghost use Rattle.dense.specs.Code.{Closing};
 ghost use Rattle.index.specs.Arrays.{arrays};
-ghost use Rattle.listing.specs.Paging.{opened, callOf, pageOf};
+ghost use Rattle.listing.specs.Paging.{opened, unwritten, callOf, requestAnswer, pageAnswer, pageOf};
 use base::Answer;
 use base::refusal;
 use index::Shape;
@@ -21,6 +23,19 @@ pub struct Page {
     pub answer: Answer,
     pub more: bool,
     pub listing: Listing,
+}
+
+impl Page {
+    // A page that writes nothing, reports nothing more, and hands the state back as it came.
+    fn unwritten(answer: Answer, listing: Listing) -> Page
+        ensures { λ r. ⌜ r ≡ unwritten answer listing ⌝ }
+    {
+        Page {
+            answer,
+            more: false,
+            listing,
+        }
+    }
 }
 
 impl Listing {
@@ -66,8 +81,34 @@ impl Listing {
     }
 }
 
-// A page of a listing with s closing values: all that it returns and writes is that of paper 01.
-pub fn page_of(
+// The answer of the tests of a page call after the check of its index: of the phrase, of the next
+// place in a text of this length, and of the page's room; 0 accepted where none refuses.
+fn request_answer(
+    vocabulary: usize,
+    words: &[u32],
+    start: usize,
+    count: usize,
+    length: usize,
+    next: usize,
+    room: usize,
+) -> Answer
+    ensures { λ r. ⌜ r ≡ requestAnswer vocabulary (now (words .entry)) start count length next room ⌝ }
+{
+    let refused = questions::answering::phrase_refusal(vocabulary, words, start, count);
+    if refused != 0 {
+        return Answer::refused(refused);
+    }
+    if length < next {
+        return Answer::refused(refusal::PLACE);
+    }
+    if room == 0 {
+        return Answer::refused(refusal::PAGE);
+    }
+    Answer::accepted(0)
+}
+
+// The page of an accepted call over a state that is not finished.
+fn written_page(
     state: Listing,
     s: usize,
     shape: Shape,
@@ -80,46 +121,9 @@ pub fn page_of(
     count: usize,
     lines: &mut [u32],
 ) -> Page
-    requires { ⌜ Closing s ⌝ }
+    requires { ⌜ Closing s × (isAccepted (pageAnswer (callOf s shape (arrays (now lengths) (now bytes) (now superblocks) (now blocks)) (now words) start count (now lines)) state) ≡ true) × (state .finished ≡ false) ⌝ }
     ensures { λ r. ⌜ (r ≡ pageOf (callOf s shape (arrays (now (lengths .entry)) (now (bytes .entry)) (now (superblocks .entry)) (now (blocks .entry))) (now (words .entry)) start count (now (lines .entry))) state .page) × (now (lines .exit) ≡ pageOf (callOf s shape (arrays (now (lengths .entry)) (now (bytes .entry)) (now (superblocks .entry)) (now (blocks .entry))) (now (words .entry)) start count (now (lines .entry))) state .lines) ⌝ }
 {
-    let checked = index::check_of(s, shape, lengths, bytes, superblocks, blocks);
-    if checked.refusal != 0 {
-        return Page {
-            answer: checked,
-            more: false,
-            listing: state,
-        };
-    }
-    let refused = questions::answering::phrase_refusal(shape.vocabulary, words, start, count);
-    if refused != 0 {
-        return Page {
-            answer: Answer::refused(refused),
-            more: false,
-            listing: state,
-        };
-    }
-    if words::text_length(lengths) < state.next {
-        return Page {
-            answer: Answer::refused(refusal::PLACE),
-            more: false,
-            listing: state,
-        };
-    }
-    if lines.len() == 0 {
-        return Page {
-            answer: Answer::refused(refusal::PAGE),
-            more: false,
-            listing: state,
-        };
-    }
-    if state.finished {
-        return Page {
-            answer: Answer::accepted(0),
-            more: false,
-            listing: state,
-        };
-    }
     let mut starts = [0u32; index::MAX_STARTS];
     index::node_starts(lengths, &mut starts);
     let end = start + count;
@@ -143,4 +147,57 @@ pub fn page_of(
             finished: written.finished,
         },
     }
+}
+
+// A page of a listing with s closing values: all that it returns and writes is that of paper 01.
+pub fn page_of(
+    state: Listing,
+    s: usize,
+    shape: Shape,
+    lengths: &[u32],
+    bytes: &[u8],
+    superblocks: &[u32],
+    blocks: &[u16],
+    words: &[u32],
+    start: usize,
+    count: usize,
+    lines: &mut [u32],
+) -> Page
+    requires { ⌜ Closing s ⌝ }
+    ensures { λ r. ⌜ (r ≡ pageOf (callOf s shape (arrays (now (lengths .entry)) (now (bytes .entry)) (now (superblocks .entry)) (now (blocks .entry))) (now (words .entry)) start count (now (lines .entry))) state .page) × (now (lines .exit) ≡ pageOf (callOf s shape (arrays (now (lengths .entry)) (now (bytes .entry)) (now (superblocks .entry)) (now (blocks .entry))) (now (words .entry)) start count (now (lines .entry))) state .lines) ⌝ }
+{
+    let checked = index::check_of(s, shape, lengths, bytes, superblocks, blocks);
+    if checked.refusal != 0 {
+        return Page::unwritten(checked, state);
+    }
+    let length = words::text_length(lengths);
+    let room = lines.len();
+    let request = request_answer(
+        shape.vocabulary,
+        words,
+        start,
+        count,
+        length,
+        state.next,
+        room,
+    );
+    if request.refusal != 0 {
+        return Page::unwritten(request, state);
+    }
+    if state.finished {
+        return Page::unwritten(Answer::accepted(0), state);
+    }
+    written_page(
+        state,
+        s,
+        shape,
+        lengths,
+        bytes,
+        superblocks,
+        blocks,
+        words,
+        start,
+        count,
+        lines,
+    )
 }
