@@ -16,7 +16,7 @@
 
 static const uint32_t vocabulary = 100000;
 // How often each thing is run, by the engine and by the other; the least time counts. An index of another program is built once.
-static const int runs = 5;
+static const int runs = 9;
 static Table table;
 
 static void must(bool holds, const char *what) {
@@ -353,10 +353,10 @@ static void measure(size_t n, uint32_t block, uint32_t per, bool peers) {
     must(engine.a == made, "build");
     table.add(n, "build", built.one, "twin", built.other);
     const auto check = [&] { must(engine.check().refusal == 0, "check"); };
-    const Both checked = in_turn(runs, check, [&] { must(twin::check(made, vocabulary), "check"); });
+    const Both checked = in_turn(runs, check, [&] { must(twin::check(engine.a, vocabulary), "check"); });
     table.add(n, "check", checked.one, "twin", checked.other);
     uint64_t sum = 0;
-    const Both counted = in_turn(runs, check, [&] { sum += twin::histogram(made.bytes); });
+    const Both counted = in_turn(runs, check, [&] { sum += twin::histogram(engine.a.bytes); });
     table.add(n, "check", counted.one, "plain histogram", counted.other);
     std::printf("the index: B %u, b %u, %.2f bytes a word, of which %.2f are node bytes (%llu)\n", block, per, double(made.space()) / n,
                 double(made.bytes.size()) / n, (unsigned long long)sum % 10);
@@ -404,7 +404,7 @@ int main(int count, char **arguments) {
     const bool given = count > 2;
     std::printf("| words | measured | engine, ms | beside | its time, ms | ratio |\n|---|---|---|---|---|---|\n");
     for (size_t n : {1000000, 4000000, 16000000}) {
-        const uint32_t usual = n <= 2000000 ? 256 : n <= 8000000 ? 512 : 1024;
+        const uint32_t usual = n <= 2000000 ? 512 : 1024;
         measure(n, given ? std::atoi(arguments[1]) : usual, given ? std::atoi(arguments[2]) : 8, !given);
     }
     plot("times.svg");

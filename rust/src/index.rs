@@ -27,11 +27,7 @@ pub struct Index {
 impl Shape {
     /// The block lengths that were measured to be good for a text of so many words, in space and in time (docs/BENCHMARKS.md).
     pub fn for_text(vocabulary: usize, words: usize) -> Shape {
-        let block = match words {
-            0..=2_000_000 => 256,
-            2_000_001..=8_000_000 => 512,
-            _ => 1024,
-        };
+        let block = if words <= 2_000_000 { 512 } else { 1024 };
         Shape { vocabulary, block, per_superblock: 8 }
     }
 
