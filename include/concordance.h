@@ -18,7 +18,7 @@
  * order in which they are tried. No call keeps a pointer, and equal arguments have equal answers.
  *
  * Stack. No call allocates memory; its tables lie on the stack. The most that a call needs, as bench/stack.c measures it on x86-64:
- *   concordance_read_text: 1468 KB
+ *   concordance_read_text: 1463 KB
  *   concordance_build, concordance_ask, concordance_answer_sheet, concordance_passage, concordance_list: 265 KB
  *   concordance_check: 3 KB
  *   concordance_write_stream, concordance_read_stream, concordance_open: less than 1 KB
