@@ -1,4 +1,4 @@
--- `directory::row_ahead` meets its contract. The loop's invariant: the step is from 1 to 32. Assumes nothing.
+-- `directory::row_ahead` meets its contract. The loop's invariant: the step is from 1 to 62, less than twice 32. Assumes nothing.
 use Prim.Native.Nat.{_≤_, _-_}
 use borrow.Author.Needs.{needs}
 use Rattle.directory.proofs.row_ahead.Statement.{statement}

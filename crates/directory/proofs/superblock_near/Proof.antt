@@ -1,4 +1,4 @@
--- `directory::superblock_near` meets its contract: whichever rows are searched, no row after the one found has at most j. Assumes nothing.
+-- `directory::superblock_near` meets its contract: whichever rows are searched, the one found has at most j, and the row after it has more. Assumes nothing.
 use Prim.Native.Nat.{_/_}
 use native.Mathlib.Omega.{arith}
 use borrow.Author.Needs.{needs}
