@@ -77,7 +77,8 @@ fn show(name: &[u8], stream: &[u8]) {
 fn lend(name: &[u8], stream: &[u8], output: &mut [u8]) {
     let answer = node_listing::write_listing(stream, output);
     printing::words(name);
-    printing::answer_with_bytes(answer, output);
+    printing::answered_with_bytes(answer, output);
+    printing::words(b"\n");
 }
 
 // Fills a slice with words of one byte: ranks 0 to 127 over and over.

@@ -45,27 +45,22 @@ pub fn answer(a: Answer) {
     number(a.value);
 }
 
-// Ends the line of a case with its answer.
-pub fn answer_line(a: Answer) {
+// Writes an answer behind what was asked.
+pub fn answered(a: Answer) {
     words(b": ");
     answer(a);
-    words(b"\n");
 }
 
-// Ends the line of a case with its answer and what a slice of bytes holds then.
-pub fn answer_with_bytes(a: Answer, s: &[u8]) {
-    words(b": ");
-    answer(a);
+// Writes an answer behind what was asked, and what a slice of bytes holds then.
+pub fn answered_with_bytes(a: Answer, s: &[u8]) {
+    answered(a);
     words(b":");
     bytes(s);
-    words(b"\n");
 }
 
-// Ends the line of a case with its answer and what a slice of ranks holds then.
-pub fn answer_with_ranks(a: Answer, s: &[u32]) {
-    words(b": ");
-    answer(a);
+// Writes an answer behind what was asked, and what a slice of ranks holds then.
+pub fn answered_with_ranks(a: Answer, s: &[u32]) {
+    answered(a);
     words(b":");
     ranks(s);
-    words(b"\n");
 }

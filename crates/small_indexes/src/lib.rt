@@ -57,7 +57,7 @@ pub fn sizes_of(nodes: usize, bytes: usize, superblocks: usize, blocks: usize) -
 }
 
 // The first n elements of a slice, or all where it has fewer.
-fn front(numbers: &[u32], n: usize) -> &[u32]
+pub fn front(numbers: &[u32], n: usize) -> &[u32]
     ensures { λ r. ⌜ now r ≡ lent n (now (numbers .entry)) ⌝ }
 {
     let count = base::least(n, numbers.len());
@@ -65,7 +65,7 @@ fn front(numbers: &[u32], n: usize) -> &[u32]
 }
 
 // The same of bytes.
-fn front_bytes(bytes: &[u8], n: usize) -> &[u8]
+pub fn front_bytes(bytes: &[u8], n: usize) -> &[u8]
     ensures { λ r. ⌜ now r ≡ lent n (now (bytes .entry)) ⌝ }
 {
     let count = base::least(n, bytes.len());
@@ -78,23 +78,6 @@ fn front_blocks(counters: &[u16], n: usize) -> &[u16]
 {
     let count = base::least(n, counters.len());
     &counters[..count]
-}
-
-// Prints the words that are lent for phrases.
-pub fn lend(words: &[u32]) {
-    printing::words(b"lent words");
-    printing::ranks(words);
-    printing::words(b"\n");
-}
-
-// Reads a passage into a slice and prints it.
-fn read(small: SmallIndex, place: usize, ranks: &mut [u32]) {
-    let answer = small.passage(place, ranks);
-    printing::words(b"passage at ");
-    printing::number(place);
-    printing::words(b" of length ");
-    printing::number(ranks.len());
-    printing::answer_with_ranks(answer, ranks);
 }
 
 impl SmallIndex {
@@ -134,21 +117,6 @@ impl SmallIndex {
             text,
             sizes_of(nodes, bytes, 256, 256),
         )
-    }
-
-    // The same, with a line printed: V, n, the text, and the answer of building.
-    pub fn shown(vocabulary: usize, text: &[u32], nodes: usize, bytes: usize) -> SmallIndex
-        ensures { λ r. ⌜ r ≡ builtIndex (shapeOf vocabulary 256 8) (now (text .entry)) (sizesOf nodes bytes 256 256) ⌝ }
-    {
-        let small = SmallIndex::of(vocabulary, text, nodes, bytes);
-        printing::words(b"V ");
-        printing::number(vocabulary);
-        printing::words(b", n ");
-        printing::number(text.len());
-        printing::words(b", text");
-        printing::ranks(text);
-        printing::answer_line(small.answer);
-        small
     }
 
     // The same arrays with another V, B and b.
@@ -227,22 +195,6 @@ impl SmallIndex {
             place,
             ranks,
         )
-    }
-
-    // Prints how often a part of the lent words stands.
-    pub fn show_count(self, words: &[u32], start: usize, length: usize) {
-        printing::words(b"phrase from ");
-        printing::number(start);
-        printing::words(b" of length ");
-        printing::number(length);
-        printing::answer_line(self.ask(words, Question::phrase(start, length)));
-    }
-
-    // Prints a passage of so many words, at most 20, read into a slice that held nothing but 7.
-    pub fn show_passage(self, place: usize, length: usize) {
-        let mut ranks = [7u32; 20];
-        let count = base::least(length, 20);
-        read(self, place, &mut ranks[..count]);
     }
 
     // Writes the next page of a listing of a phrase.

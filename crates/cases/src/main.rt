@@ -1,0 +1,74 @@
+// Runs cases, one a line of standard input, and prints each line with what came of it. What a line
+// begins with says which call it is, and the numbers behind it, each after a blank, what is given:
+// decimal, or hexadecimal behind an x.
+//
+//     # ..                       nothing: the line is printed
+//     encode SIZE V R..          writes a text as a stream into a slice of so many bytes
+//     decode SIZE B..            reads a stream into a slice of so many ranks
+//     room N L U K V B b R..     builds the index of a text in slices of these sizes
+//     build V B b R..            builds it in arrays with room, of which the calls below are lent parts
+//     sizes N L U K              how many elements of each array are lent
+//     values V B b               the V, B and b that are given
+//     modify ARRAY I X           element I of array 0, 1, 2 or 3 becomes X
+//     check                      checks the index
+//     words R..                  the words that are lent for phrases
+//     1 P / 2 W P / 3 W P / 4 W V D / 5 START LENGTH     a question by the maker of its kind
+//     ask KIND W V D P START LENGTH                      a question with every field given
+//     quote P SIZE               a passage
+//     open / open NEXT FINISHED  the state of a listing: the opening one, or any
+//     page START LENGTH SIZE     a page of the listing
+//     list BYTES                 the word list; \ and two hexadecimal digits stand for any byte
+//     text SIZE BYTES            reads plain text through the list
+//
+// Slices that are filled held nothing but 7 before, those of lines and of ranks read from plain text
+// nothing but 9.
+mod given;
+mod shown;
+mod state;
+
+ghost use Prim.Native.Nat.{_≤_};
+ghost use lib.ListN.{length};
+use libc::STDIN_FILENO;
+use state::State;
+
+// Where the line ends that begins at a position: at the next 0A, or at the end of the input.
+fn line_end(input: &[u8], from: usize) -> usize
+    requires { ⌜ from ≤ length (now input) ⌝ }
+    ensures { λ r. ⌜ (from ≤ r) × (r ≤ length (now (input .entry))) ⌝ }
+{
+    let mut at = from;
+    while at < input.len() {
+        if input[at] == b'\n' {
+            return at;
+        }
+        at += 1;
+    }
+    at
+}
+
+// Runs the case of a line.
+fn run_line(state: State, line: &[u8]) -> State {
+    let numbers = given::numbers_of(line);
+    printing::words(line);
+    shown::show(state, line, numbers);
+    let next = state.changed(line, numbers);
+    printing::words(b"\n");
+    next
+}
+
+// Runs the cases of all lines, each over the state that the one before it left.
+fn run(input: &[u8]) {
+    let mut state = State::first();
+    let mut at: usize = 0;
+    while at < input.len() {
+        let end = line_end(input, at);
+        state = run_line(state, &input[at..end]);
+        at = end + 1;
+    }
+}
+
+fn main() {
+    let mut input = [0u8; 65536];
+    let size = io::read_full(STDIN_FILENO, &mut input);
+    run(&input[..size]);
+}
