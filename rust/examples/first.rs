@@ -6,7 +6,7 @@ fn main() -> Result<(), Refused> {
     let text = read_text(list, b"The cat sat on the mat. The cat sat.")?;
     println!("words read: {}", text.len());
 
-    let index = Index::build(Shape::for_text(5, text.len()), &text)?;
+    let index = Index::build(Shape::for_text(5), &text)?;
     println!("bytes of the index: {}", index.arrays().bytes.len());
 
     let phrase = [0, 1]; // the cat

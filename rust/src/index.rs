@@ -1,7 +1,6 @@
 //! The index of a text, as an owned value.
 use crate::entries::{self, Slices, SlicesMut};
 use crate::ffi::{Question, Shape};
-use crate::listing::Pages;
 use crate::refusal::{Refusal, Refused};
 use crate::{LONGEST_CODEWORD, MAX_SUPERBLOCK, MAX_VOCABULARY, MAX_WORDS};
 
@@ -25,10 +24,10 @@ pub struct Index {
 }
 
 impl Shape {
-    /// The block lengths that were measured to be good for a text of so many words, in space and in time (docs/BENCHMARKS.md).
-    pub fn for_text(vocabulary: usize, words: usize) -> Shape {
-        let block = if words <= 2_000_000 { 512 } else { 1024 };
-        Shape { vocabulary, block, per_superblock: 8 }
+    /// The block lengths that were measured to be good in space and in time (docs/BENCHMARKS.md). They are the same for texts of every
+    /// size.
+    pub fn for_text(vocabulary: usize) -> Shape {
+        Shape { vocabulary, block: 1024, per_superblock: 8 }
     }
 
     /// Whether V, B and b are within their limits.
@@ -114,7 +113,7 @@ impl Index {
     pub fn answer_sheet(&self, words: &[u32], questions: &[Question]) -> Result<Vec<Result<u32, Refusal>>, Refused> {
         let mut answers = vec![0; 2 * questions.len()];
         entries::answer_sheet(self.shape, self.arrays.slices(), words, questions, &mut answers).result()?;
-        Ok(answers.chunks(2).map(|pair| Refusal::reported(pair[0]).map_or(Ok(pair[1]), Err)).collect())
+        Ok(answers.chunks(2).map(|pair| Refusal::from_number(pair[0]).map_or(Ok(pair[1]), Err)).collect())
     }
 
     /// How often a phrase stands in the text.
@@ -127,11 +126,6 @@ impl Index {
         let mut ranks = vec![0; length.min(self.one_too_many())];
         entries::passage(self.shape, self.arrays.slices(), place, &mut ranks).result()?;
         Ok(ranks)
-    }
-
-    /// The pages of the listing of a phrase, each of at most so many lines.
-    pub fn pages<'a>(&'a self, phrase: &'a [u32], lines: usize) -> Pages<'a> {
-        Pages::open(self, phrase, lines)
     }
 
     /// One element more than the text has words: no passage has so many, and no page can be full with so many. Longer slices have the

@@ -21,11 +21,14 @@ pub struct Pages<'a> {
     ended: bool,
 }
 
-impl<'a> Pages<'a> {
-    pub(crate) fn open(index: &'a Index, phrase: &'a [u32], lines: usize) -> Pages<'a> {
-        Pages { index, phrase, lines: lines.min(index.one_too_many()), listing: entries::open(), ended: false }
+impl Index {
+    /// The pages of the listing of a phrase, each of at most so many lines.
+    pub fn pages<'a>(&'a self, phrase: &'a [u32], lines: usize) -> Pages<'a> {
+        Pages { index: self, phrase, lines: lines.min(self.one_too_many()), listing: entries::open(), ended: false }
     }
+}
 
+impl Pages<'_> {
     /// The state that the next page takes.
     pub fn listing(&self) -> Listing {
         self.listing

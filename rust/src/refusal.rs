@@ -5,25 +5,28 @@ use std::fmt;
 /// A row of the table of refusals.
 #[derive(Clone, Copy, Debug, PartialEq, Eq)]
 pub enum Refusal {
-    Vocabulary = 1,
-    Words = 2,
-    Blocks = 3,
-    TextRank = 4,
-    ShortSlice = 5,
-    Index = 6,
-    Kind = 7,
-    Phrase = 8,
-    AskedRank = 9,
-    Offset = 10,
-    Place = 11,
-    Page = 12,
-    WordList = 13,
-    Unlisted = 14,
-    Stream = 15,
+    Vocabulary,
+    Words,
+    Blocks,
+    TextRank,
+    ShortSlice,
+    Index,
+    Kind,
+    Phrase,
+    AskedRank,
+    Offset,
+    Place,
+    Page,
+    WordList,
+    Unlisted,
+    Stream,
+    /// A number that this table lacks, as a later archive may report it.
+    Other(u32),
 }
 
 impl Refusal {
-    const ALL: [Refusal; 15] = [
+    /// The rows in the order of their numbers, from 1 on.
+    const ROWS: [Refusal; 15] = [
         Refusal::Vocabulary,
         Refusal::Words,
         Refusal::Blocks,
@@ -41,19 +44,19 @@ impl Refusal {
         Refusal::Stream,
     ];
 
-    /// The row with a number of the table; none for 0 and for a number that the table lacks.
+    /// The refusal with a number; none for 0, which says that the call was accepted.
     pub fn from_number(number: u32) -> Option<Refusal> {
-        Refusal::ALL.into_iter().find(|row| row.number() == number)
+        let row = (number as usize).checked_sub(1)?;
+        Some(Refusal::ROWS.get(row).copied().unwrap_or(Refusal::Other(number)))
     }
 
-    /// The refusal that the engine reports with a number; none for 0, which says that the call was accepted.
-    pub(crate) fn reported(number: u32) -> Option<Refusal> {
-        (number != 0).then(|| Refusal::from_number(number).expect("the engine's numbers are those of the table"))
-    }
-
-    /// The number of the row.
+    /// The number of the refusal.
     pub fn number(self) -> u32 {
-        self as u32
+        if let Refusal::Other(number) = self {
+            return number;
+        }
+        let row = Refusal::ROWS.iter().position(|&row| row == self);
+        row.map_or(0, |row| row as u32 + 1)
     }
 
     /// When the refusal is given, in the table's words.
@@ -81,6 +84,7 @@ impl Refusal {
             }
             Refusal::Unlisted => "first word of the text not in the list",
             Refusal::Stream => "a codeword of over three bytes, or a stream that ends inside one",
+            Refusal::Other(_) => "a number that the table of this version lacks",
         }
     }
 }
@@ -104,7 +108,7 @@ impl std::error::Error for Refused {}
 impl Answer {
     /// The value of an accepted call, or its refusal.
     pub fn result(self) -> Result<usize, Refused> {
-        match Refusal::reported(self.refusal) {
+        match Refusal::from_number(self.refusal) {
             Some(refusal) => Err(Refused { refusal, value: self.value }),
             None => Ok(self.value),
         }

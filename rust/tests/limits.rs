@@ -31,7 +31,7 @@ fn longest_text() -> Vec<u32> {
 #[test]
 fn most_words() {
     let mut text = longest_text();
-    let shape = Shape::for_text(MAX_VOCABULARY, MAX_WORDS);
+    let shape = Shape::for_text(MAX_VOCABULARY);
     let index = Index::build(shape, &text).expect("the longest text is one");
     assert_eq!(index.words(), MAX_WORDS);
     let frequency = text.iter().filter(|&&word| word == 7).count();
@@ -174,7 +174,7 @@ fn absurd_shapes() {
 #[test]
 fn absurd_lengths() {
     let text = [2, 0, 1, 0];
-    let index = Index::build(Shape::for_text(3, text.len()), &text).unwrap();
+    let index = Index::build(Shape::for_text(3), &text).unwrap();
     let refused = Refused { refusal: Refusal::Place, value: 0 };
     assert_eq!(index.passage(0, usize::MAX), Err(refused));
     assert_eq!(index.passage(usize::MAX, usize::MAX), Err(refused));
@@ -182,14 +182,18 @@ fn absurd_lengths() {
     assert_eq!(pages, [[1, 3]]);
 }
 
-/// The numbers 1 to 15 have a row of the table, and no other number has.
+/// The numbers 1 to 15 have a row of the table each, 0 is no refusal, and any other number comes back as itself.
 #[test]
 fn refusals() {
+    assert_eq!(Refusal::from_number(0), None);
     for number in 1..=15 {
-        assert_eq!(Refusal::from_number(number).map(Refusal::number), Some(number));
+        let refusal = Refusal::from_number(number).expect("a number above 0 is a refusal");
+        assert_eq!(refusal.number(), number);
+        assert_ne!(refusal, Refusal::Other(number));
     }
-    for number in [0, 16, u32::MAX] {
-        assert_eq!(Refusal::from_number(number), None);
+    for number in [16, u32::MAX] {
+        assert_eq!(Refusal::from_number(number), Some(Refusal::Other(number)));
+        assert_eq!(Refusal::Other(number).number(), number);
     }
 }
 
@@ -197,7 +201,7 @@ fn refusals() {
 #[test]
 fn offsets_phrases_and_pages() {
     let text: Vec<u32> = (0..40).collect();
-    let index = Index::build(Shape::for_text(40, text.len()), &text).unwrap();
+    let index = Index::build(Shape::for_text(40), &text).unwrap();
     let refusal = |question, words: &[u32]| index.ask(words, question).map_err(|refused| refused.refusal.number());
     assert_eq!(refusal(Question::neighbours(0, 16, 16), &[]), Ok(1));
     assert_eq!(refusal(Question::neighbours(16, 0, -16), &[]), Ok(1));

@@ -52,7 +52,7 @@ fn streams_of_another_program() {
         assert_eq!(text, ranks(&plain), "{name}");
         let vocabulary = text.iter().max().map_or(1, |&rank| rank as usize + 1);
         assert_eq!(write_stream(vocabulary, &text).unwrap(), stream, "{name}");
-        let index = Index::build(Shape::for_text(vocabulary, text.len()), &text).expect("the text is one");
+        let index = Index::build(Shape::for_text(vocabulary), &text).expect("the text is one");
         assert!(index.arrays().bytes == stored(&format!("{name}.tree")), "{name}");
         assert_eq!(lengths(&index), String::from_utf8(stored(&format!("{name}.lengths"))).unwrap(), "{name}");
     }
