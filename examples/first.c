@@ -37,8 +37,8 @@ int main(void) {
         more = page.more;
     }
 
-    bytes[0] = 5; /* a byte that says that another follows */
+    bytes[0] = 5; /* says that another byte follows, in node 6, and there is only node 0 */
     concordance_answer damaged = concordance_check(shape, lengths, 1, bytes, 9, superblocks, 256, blocks, 256);
-    printf("with one byte changed: refusal %u\n", damaged.refusal);
+    printf("with a byte that leads to a missing node: refusal %u\n", damaged.refusal);
     return 0;
 }

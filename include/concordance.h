@@ -4,13 +4,20 @@
  * Words. A text is a sequence of n words, each given as its rank, 0 to V - 1, where V is the size of the vocabulary: V is 1 to 2,113,664,
  * n is 0 to 16,777,216. Places in the text count from 0. B is the block length, b the number of blocks of a superblock, S = B * b. L is the
  * number of bytes of the text's stream. The index of a text is four arrays: `lengths`, the length of each node of the byte tree; `bytes`,
- * the L bytes of the nodes; `superblocks` and `blocks`, the counters of these bytes.
+ * the L bytes of the nodes; `superblocks` and `blocks`, the counters of these bytes. Node 0 is the root and has one byte for each word, so
+ * that `lengths[0]` of an index is n.
  *
- * Sizes. An index has N = V / 128 nodes, rounded up; L is at most 3 * n. The arrays have N, L, 256 * (L / S + 1) and 256 * (L / B + 1)
- * elements (whole division).
+ * Sizes. The codeword of a rank has 1 byte up to 127, 2 from 128 to 16,511, 3 from 16,512 on; L is their sum over the text, at most 3 * n.
+ * An index has N = V / 128 nodes, rounded up. The arrays have N, L, 256 * (L / S + 1) and 256 * (L / B + 1) elements (whole division).
  *
  * Slices. Each pointer is followed by the number of its elements, any number. It is not null and aligned for its element, also where the
- * number is 0, and the elements are initialized. A slice that is written (no `const`) overlaps no other slice of the call.
+ * number is 0, and the elements are initialized. A slice that is written (no `const`) overlaps no other slice of the call. Lent memory does
+ * not change while a call runs: a mapped file that another process writes is outside the promise.
+ *
+ * The check. Every call that is lent an index checks it, in one pass over its bytes. The check says that some text has these arrays as its
+ * index, and then only one text has. It cannot say that they are the arrays that were written: a changed byte can make them the index of
+ * another text, and seeing that is the work of a checksum. Since each call makes the check, many contexts are one sheet of questions of kind
+ * 1, not many passages.
  *
  * Answers. An accepted call returns the refusal 0 and its value. A call that is turned down returns the number of its refusal, with the
  * value that the table below gives, and writes nothing: all lent memory stays as it was. Where several refusals apply, the lowest number is
@@ -29,6 +36,9 @@
 #include <stdbool.h>
 #include <stddef.h>
 #include <stdint.h>
+
+/* The version of this header. It changes when a struct or the meaning of an entry does, so that a program can tell what it was written for. */
+#define CONCORDANCE_VERSION 1
 
 #ifdef __cplusplus
 extern "C" {
@@ -109,7 +119,15 @@ typedef struct {
     size_t length;
 } concordance_question;
 
-/* The state of a listing: the next place, and whether it is finished. */
+/*
+ * The state of a listing: the next place, and whether it is finished, which is 0 or 1 (another value of the byte is no bool).
+ *
+ * Over a whole listing. Begin with concordance_open, and hand each call the state that the call before it returned, whether that was
+ * accepted or refused. If all accepted calls bring the same phrase and the same V, B, b and arrays, then the places of the accepted pages, one
+ * page after another, are the places at which the phrase stands in the text: ascending, each once, none missing as soon as a page is
+ * accepted without reporting more; then they are as many as concordance_ask, kind 5, counts. The page with the last place reports the end,
+ * and so does the first page where there is none.
+ */
 typedef struct {
     size_t next;
     bool finished;

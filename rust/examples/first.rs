@@ -19,10 +19,10 @@ fn main() -> Result<(), Refused> {
 
     let shape = index.shape();
     let mut arrays: Arrays = index.into_arrays();
-    arrays.bytes[0] = 5; // a byte that says that another follows
+    arrays.bytes[0] = 5; // says that another byte follows, in node 6, and there is only node 0
     match Index::from_arrays(shape, arrays) {
         Ok(_) => println!("the damaged index passed"),
-        Err(refused) => println!("with one byte changed: {refused}"),
+        Err(refused) => println!("with a byte that leads to a missing node: {refused}"),
     }
     Ok(())
 }

@@ -66,10 +66,10 @@ fn check_arrays() {
     let mut bytes = BYTES;
     bytes[5] = 0x81;
     check(
-        b"The same arrays with one byte changed",
+        b"The same arrays with a byte that is counted otherwise",
         &bytes,
         &counters,
-        b"passed: the check does not see every byte",
+        b"passed: the bytes are not compared with their counters",
     );
     let mut off_by_one = counters;
     off_by_one[385] = 2;
@@ -77,7 +77,7 @@ fn check_arrays() {
         b"The same arrays with one counter off by one",
         &BYTES,
         &off_by_one,
-        b"passed: the check does not see every counter",
+        b"passed: a counter is not compared with its bytes",
     );
 }
 
@@ -155,6 +155,19 @@ fn count_words() {
     );
 }
 
+// Reads a passage of the words on each side of a code length.
+fn read_passage() {
+    let small = SmallIndex::of(16513, &[127, 128, 16511, 16512], 130, 8);
+    let mut ranks = [9u32; 3];
+    let answer = small.passage(1, &mut ranks);
+    printing::words(b"The three words from place 1 on are read as one passage:");
+    printing::ranks(&ranks);
+    printing::words(b", ");
+    value(answer);
+    printing::words(b" words");
+    end(b"not 128 16511 16512 and 3: a passage is not the words one by one");
+}
+
 // Prints the place on a page of one line of the phrase 7 7, and whether more follow.
 fn page_of_one(small: SmallIndex, state: Listing) -> Listing {
     let mut line = [9u32; 1];
@@ -166,6 +179,17 @@ fn page_of_one(small: SmallIndex, state: Listing) -> Listing {
         printing::words(b" and the end");
     }
     page.listing
+}
+
+// Asks for a page of no lines of the phrase 7 7, which is turned down, and lists on with the state
+// that it hands back.
+fn refuse_page(small: SmallIndex, state: Listing) {
+    start(b"After the first of these a page of no lines is asked for, and the next page lists");
+    let page = small.page(state, &[7, 7], 0, 2, &mut []);
+    refused(page.answer);
+    printing::words(b",");
+    page_of_one(small, page.listing);
+    end(b"not 12, or another place than 1: a page that is turned down moves the listing");
 }
 
 // Lists a phrase that overlaps itself, on one page and on pages of one line, and counts it.
@@ -181,6 +205,7 @@ fn list_phrase() {
     let third = page_of_one(small, second);
     page_of_one(small, third);
     end(b"an earlier end, or a 9: the later pages are blank");
+    refuse_page(small, second);
     start(b"How often it is counted");
     value(small.ask(&[7, 7], Question::phrase(0, 2)));
     end(b"not 3: the count is unlike the listing");
@@ -193,6 +218,7 @@ fn main() {
     printing::words(b"result would mean. A word is written as its rank.\n");
     check_arrays();
     read_words();
+    read_passage();
     list_phrase();
     count_words();
 }
