@@ -100,7 +100,7 @@ fn refused(name: &[u8], shape: Shape, text: &[u32]) {
 
 // Builds the index of 0 128, which has 2 nodes, 3 bytes and 256 counters of each kind, in slices.
 fn build_in(name: &[u8], n: &mut [u32], l: &mut [u8], u: &mut [u32], k: &mut [u16]) {
-    let answer = index::build(shape_of(130, 256, 8), &[0, 128], n, l, u, k);
+    let answer = building::build(shape_of(130, 256, 8), &[0, 128], n, l, u, k);
     printing::words(name);
     printing::answer_with_bytes(answer, l);
 }
@@ -146,7 +146,7 @@ fn slices() {
 
 // Builds the index of a text in empty slices.
 fn build_nowhere(name: &[u8], shape: Shape, text: &[u32]) {
-    let answer = index::build(shape, text, &mut [], &mut [], &mut [], &mut []);
+    let answer = building::build(shape, text, &mut [], &mut [], &mut [], &mut []);
     printing::words(name);
     printing::answer_line(answer);
 }
