@@ -66,7 +66,7 @@ fn quote(state: State, numbers: Numbers) {
 fn build_in(numbers: Numbers, n: &mut [u32], l: &mut [u8], u: &mut [u32], k: &mut [u16]) {
     let text = given::ranks_of(numbers, 7);
     let shape = shape_of(numbers.values[4], numbers.values[5], numbers.values[6]);
-    let answer = index::build(
+    let answer = building::build(
         shape,
         small_indexes::front(&text.values, text.count),
         n,

@@ -59,7 +59,7 @@ pub extern "C" fn concordance_build(
     ensures filled { λ _. ⌜ arrays (now (lengths .exit)) (now (bytes .exit)) (now (superblocks .exit)) (now (blocks .exit))
         ≡ buildExit 128 shape (now (text .entry)) (arrays (now (lengths .entry)) (now (bytes .entry)) (now (superblocks .entry)) (now (blocks .entry))) ⌝ }
 {
-    index::build(shape, text, lengths, bytes, superblocks, blocks)
+    building::build(shape, text, lengths, bytes, superblocks, blocks)
 }
 
 // Checks an index: 0 is answered exactly if some text of the vocabulary has the four slices as its
@@ -74,7 +74,7 @@ pub extern "C" fn concordance_check(
 ) -> Answer
     ensures { λ r. ⌜ r ≡ checkAnswer 128 shape (arrays (now (lengths .entry)) (now (bytes .entry)) (now (superblocks .entry)) (now (blocks .entry))) ⌝ }
 {
-    index::check(shape, lengths, bytes, superblocks, blocks)
+    checking::check(shape, lengths, bytes, superblocks, blocks)
 }
 
 // Asks a question of an index. Refusals 1, 3 and 6, then 7 to 11 as the kind needs; fields that the
@@ -112,7 +112,7 @@ pub extern "C" fn concordance_answer_sheet(
 ) -> Answer
     ensures { λ r. ⌜ (r ≡ sheetAnswer 128 shape (arrays (now (lengths .entry)) (now (bytes .entry)) (now (superblocks .entry)) (now (blocks .entry))) (length (now (questions .entry))) (length (now (answers .entry)))) × (now (answers .exit) ≡ sheetExit 128 shape (arrays (now (lengths .entry)) (now (bytes .entry)) (now (superblocks .entry)) (now (blocks .entry))) (now (words .entry)) (now (questions .entry)) (now (answers .entry))) ⌝ }
 {
-    let mut starts = [0u32; index::MAX_STARTS];
+    let mut starts = [0u32; starts::MAX_STARTS];
     let answer = sheets::prepare(
         dense::CLOSING,
         shape,

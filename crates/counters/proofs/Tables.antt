@@ -11,8 +11,8 @@ use lib.Seq.{paste, paste-zero, paste-suc, length-paste, take-add, take-all}
 use Rattle.base.specs.Lists.{same}
 use Rattle.base.specs.Answers.{front}
 use Rattle.base.proofs.Lists.{same-more, same-true, same-false}
-use Rattle.directory.specs.Tables.{laid}
-use Rattle.directory.proofs.Laid.{laid-suc, laid-length, laid-row}
+use Rattle.directory.specs.Tables.{firstRows}
+use Rattle.directory.proofs.FirstRows.{first-rows-suc, first-rows-length, first-rows-row}
 use Rattle.counters.specs.Tallies.{Begins}
 use Rattle.base.proofs.Fronts.{length-front, take-front, front-of-take, front-over, front-paste, paste-next}
 
@@ -90,37 +90,37 @@ begins-none f l = refl
 
 module _ (f : ℕ → List ℕ) (wide : (r : ℕ) → length (f r) ≡ 256) where
   -- n rows in front of a slice that has room for them leave its length
-  pub rows-length : (n : ℕ) (l : List ℕ) → n * 256 ≤ length l → length (front (laid f n) l) ≡ length l
-  rows-length n l h = length-front (laid f n) l (omega (arith, laid-length f 256 wide n))
+  pub rows-length : (n : ℕ) (l : List ℕ) → n * 256 ≤ length l → length (front (firstRows f n) l) ≡ length l
+  rows-length n l h = length-front (firstRows f n) l (omega (arith, first-rows-length f 256 wide n))
 
   -- one row more is written behind n rows
-  pub rows-put : (n : ℕ) (l table s : List ℕ) → table ≡ front (laid f n) l → s ≡ f n → paste table (n * 256) s 256 ≡ front (laid f (n + 1)) l
+  pub rows-put : (n : ℕ) (l table s : List ℕ) → table ≡ front (firstRows f n) l → s ≡ f n → paste table (n * 256) s 256 ≡ front (firstRows f (n + 1)) l
   rows-put n l table s p q =
-      let e : paste (front (laid f n) l) (length (laid f n)) (f n) (length (f n)) ≡ front (laid f n ++ f n) l = front-paste (laid f n) (f n) l in
-      rw (p, q, add-one n, laid-suc f n) (rw (laid-length f 256 wide n, wide n) at e)
+      let e : paste (front (firstRows f n) l) (length (firstRows f n)) (f n) (length (f n)) ≡ front (firstRows f n ++ f n) l = front-paste (firstRows f n) (f n) l in
+      rw (p, q, add-one n, first-rows-suc f n) (rw (first-rows-length f 256 wide n, wide n) at e)
 
   -- more rows over some of them
-  pub rows-over : (n m : ℕ) (l : List ℕ) → n ≤ m → front (laid f m) (front (laid f n) l) ≡ front (laid f m) l
-  rows-over n m l h = front-over (laid f n) (laid f m) l (omega (arith, laid-length f 256 wide n, laid-length f 256 wide m))
+  pub rows-over : (n m : ℕ) (l : List ℕ) → n ≤ m → front (firstRows f m) (front (firstRows f n) l) ≡ front (firstRows f m) l
+  rows-over n m l h = front-over (firstRows f n) (firstRows f m) l (omega (arith, first-rows-length f 256 wide n, first-rows-length f 256 wide m))
 
   -- a table begins with the rows in front of it
-  pub begins-front : (n : ℕ) (l : List ℕ) → Begins f n (front (laid f n) l)
-  begins-front n l = rw (laid-length f 256 wide n) at (take-front (laid f n) l)
+  pub begins-front : (n : ℕ) (l : List ℕ) → Begins f n (front (firstRows f n) l)
+  begins-front n l = rw (first-rows-length f 256 wide n) at (take-front (firstRows f n) l)
 
   -- and a table that begins with rows has them in front
-  pub front-begins : (n : ℕ) (l : List ℕ) → Begins f n l → l ≡ front (laid f n) l
-  front-begins n l b = front-of-take (laid f n) l (rw (laid-length f 256 wide n) b)
+  pub front-begins : (n : ℕ) (l : List ℕ) → Begins f n l → l ≡ front (firstRows f n) l
+  front-begins n l b = front-of-take (firstRows f n) l (rw (first-rows-length f 256 wide n) b)
 
   -- one row more of a table is right
   pub right-row : (n : ℕ) (l s : List ℕ) → Begins f n l → s ≡ f n → same (take 256 (drop (n * 256) l)) s ≡ true → Begins f (n + 1) l
   right-row n l s b q e =
       let m : (n + 1) * 256 ≡ n * 256 + 256 = omega arith in
-      rw (m, take-add (n * 256) 256 l, b, same-true (take 256 (drop (n * 256) l)) s e, q, add-one n) (sym (laid-suc f n))
+      rw (m, take-add (n * 256) 256 l, b, same-true (take 256 (drop (n * 256) l)) s e, q, add-one n) (sym (first-rows-suc f n))
 
   -- a table of n rows, all of which are there, is the rows
-  pub begins-whole : (n : ℕ) (l : List ℕ) → length l ≡ n * 256 → Begins f n l → l ≡ laid f n
+  pub begins-whole : (n : ℕ) (l : List ℕ) → length l ≡ n * 256 → Begins f n l → l ≡ firstRows f n
   begins-whole n l e b = sym (take-all (n * 256) l (omega arith)) ∙ b
 
   -- a row that is not right shows that a table is not the rows
-  pub wrong-row : (n r : ℕ) (l s : List ℕ) → r < n → s ≡ f r → same (take 256 (drop (r * 256) l)) s ≡ false → l ≡ laid f n → ⊥
-  wrong-row n r l s h e d q = same-false (take 256 (drop (r * 256) l)) s d (ap (λ (t : List ℕ). take 256 (drop (r * 256) t)) q ∙ laid-row f 256 wide n r h ∙ sym e)
+  pub wrong-row : (n r : ℕ) (l s : List ℕ) → r < n → s ≡ f r → same (take 256 (drop (r * 256) l)) s ≡ false → l ≡ firstRows f n → ⊥
+  wrong-row n r l s h e d q = same-false (take 256 (drop (r * 256) l)) s d (ap (λ (t : List ℕ). take 256 (drop (r * 256) t)) q ∙ first-rows-row f 256 wide n r h ∙ sym e)

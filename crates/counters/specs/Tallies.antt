@@ -6,7 +6,7 @@ use mathlib.Core.List.{List, map}
 use lib.ListN.{length, getD, take, drop}
 use Rattle.base.specs.Lists.{rangeFrom}
 use Rattle.directory.specs.Counters.{superblockRow, blockRow, blockRows}
-use Rattle.directory.specs.Tables.{laid}
+use Rattle.directory.specs.Tables.{firstRows}
 
 -- 256 sums: for each x below 256 number x of the one list and number x of the other
 unfoldable pub sums : List ℕ → List ℕ → List ℕ
@@ -26,7 +26,7 @@ endOf block per n q = min (q * per + per) (suc (n / block))
 
 -- a table begins with the first n of the rows f
 abbrev pub Begins : (ℕ → List ℕ) → ℕ → List ℕ → Type 0
-Begins f n table = take (n * 256) table ≡ laid f n
+Begins f n table = take (n * 256) table ≡ firstRows f n
 
 -- superblock q is there, the totals are its row, and the block rows begin with those before it
 pub record Reached (block per : ℕ) (bytes blocks totals : List ℕ) (q : ℕ) : Type 0 where

@@ -9,7 +9,7 @@ ghost use Rattle.base.specs.Lists.{Below, same};
 ghost use Rattle.base.specs.Answers.{front};
 ghost use Rattle.base.specs.Texts.{maxSuperblock};
 ghost use Rattle.directory.specs.Counters.{row as rowOf, superblockRow, blockRow, superblockRows, blockRows, isDirectory, maxBytes, Sizes};
-ghost use Rattle.directory.specs.Tables.{laid};
+ghost use Rattle.directory.specs.Tables.{firstRows};
 ghost use Rattle.counters.specs.Tallies.{sums, counters, blockBytes, endOf, Reached, Passed};
 
 // Adds to each of 256 counters how often its byte value stands in a part, neighbours in different
@@ -106,20 +106,20 @@ fn tally_block(bytes: &[u8], block: usize, row: usize, lanes: &mut [u16; 512])
     tally(&bytes[from..to], lanes);
 }
 
-// How many rows a table has: one for each r with r × span at most the length.
-pub fn row_count(length: usize, span: usize) -> usize
-    requires { ⌜ (1 ≤ span) × (length ≤ maxBytes) ⌝ }
-    ensures { λ r. ⌜ r ≡ suc (length / span) ⌝ }
+// How many rows a table has: one for each r with r × span at most the size.
+pub fn row_count(size: usize, span: usize) -> usize
+    requires { ⌜ (1 ≤ span) × (size ≤ maxBytes) ⌝ }
+    ensures { λ r. ⌜ r ≡ suc (size / span) ⌝ }
 {
-    length / span + 1
+    size / span + 1
 }
 
 // The first block row past a superblock, or past the last block row.
-fn rows_end(length: usize, block: usize, per: usize, superblock: usize) -> usize
-    requires { ⌜ (1 ≤ block) × (length ≤ maxBytes) × (superblock * per + per ≤ maxBytes + maxSuperblock) ⌝ }
-    ensures { λ r. ⌜ r ≡ endOf block per length superblock ⌝ }
+fn rows_end(size: usize, block: usize, per: usize, superblock: usize) -> usize
+    requires { ⌜ (1 ≤ block) × (size ≤ maxBytes) × (superblock * per + per ≤ maxBytes + maxSuperblock) ⌝ }
+    ensures { λ r. ⌜ r ≡ endOf block per size superblock ⌝ }
 {
-    base::least(superblock * per + per, row_count(length, block))
+    base::least(superblock * per + per, row_count(size, block))
 }
 
 // Writes the block rows of a superblock behind those before it, where the rest stays, and makes the
@@ -133,7 +133,7 @@ fn fill_superblock(
     superblock: usize,
 )
     requires { ⌜ Sizes block per (now bytes) × Reached block per (now bytes) (now blocks) (now totals) superblock × (suc (length (now bytes) / block) * 256 ≤ length (now blocks)) ⌝ }
-    ensures { λ _. ⌜ (now (blocks .exit) ≡ front (laid (blockRow block per (now (bytes .entry))) (endOf block per (length (now (bytes .entry))) superblock)) (now (blocks .entry)))
+    ensures { λ _. ⌜ (now (blocks .exit) ≡ front (firstRows (blockRow block per (now (bytes .entry))) (endOf block per (length (now (bytes .entry))) superblock)) (now (blocks .entry)))
         × (now (totals .exit) ≡ superblockRow block per (now (bytes .entry)) (superblock + 1)) ⌝ }
 {
     let mut lanes = [0u16; 512];

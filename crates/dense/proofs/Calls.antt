@@ -97,6 +97,22 @@ module _ (s vocab : ℕ) (t z : List ℕ) where
     e ∙ sym (filled-front (writeStreamAnswer s vocab t z) (stream s t) z (ap isAccepted (writable-accepted s vocab t z w))),
   )
 
+-- the refusals of the call that reads, in their order
+module _ (s : ℕ) (bytes z : List ℕ) where
+  pub read-words : maxWords < closings s bytes → readStreamAnswer s bytes z ≡ refused refusalWords
+  unfolding readStreamAnswer wordsCase
+  read-words h = first-here _ _ _ _ (lt-ltb maxWords (closings s bytes) h)
+
+  module _ (words : closings s bytes ≤ maxWords) where
+    pub read-short : length z < closings s bytes → readStreamAnswer s bytes z ≡ refused refusalShortSlice
+    unfolding readStreamAnswer wordsCase
+    read-short h = first-later _ _ _ _ (le-ltb maxWords (closings s bytes) words) ∙ first-here _ _ _ _ (lt-ltb (length z) (closings s bytes) h)
+
+    pub read-broken : closings s bytes ≤ length z → isBroken s bytes ≡ true → readStreamAnswer s bytes z ≡ refused refusalStream
+    unfolding readStreamAnswer wordsCase
+    read-broken h e =
+        first-later _ _ _ _ (le-ltb maxWords (closings s bytes) words) ∙ first-later _ _ _ _ (le-ltb (length z) (closings s bytes) h) ∙ first-here _ _ _ _ e
+
 -- what the call that reads a stream asks of the bytes and the slice
 pub record Readable (s : ℕ) (bytes z : List ℕ) : Type 0 where
   pub short : closings s bytes ≤ maxWords
@@ -131,22 +147,7 @@ readable-read s bytes z r =
     (filled-front (readStreamAnswer s bytes z) (streamText s bytes) z (ap isAccepted (readable-accepted s bytes z r)))
     ∙ take-append-seam (streamText s bytes) (drop (length (streamText s bytes)) z)
 
--- the refusals of the call that reads, in their order
 module _ (s : ℕ) (bytes z : List ℕ) where
-  pub read-words : maxWords < closings s bytes → readStreamAnswer s bytes z ≡ refused refusalWords
-  unfolding readStreamAnswer wordsCase
-  read-words h = first-here _ _ _ _ (lt-ltb maxWords (closings s bytes) h)
-
-  module _ (words : closings s bytes ≤ maxWords) where
-    pub read-short : length z < closings s bytes → readStreamAnswer s bytes z ≡ refused refusalShortSlice
-    unfolding readStreamAnswer wordsCase
-    read-short h = first-later _ _ _ _ (le-ltb maxWords (closings s bytes) words) ∙ first-here _ _ _ _ (lt-ltb (length z) (closings s bytes) h)
-
-    pub read-broken : closings s bytes ≤ length z → isBroken s bytes ≡ true → readStreamAnswer s bytes z ≡ refused refusalStream
-    unfolding readStreamAnswer wordsCase
-    read-broken h e =
-        first-later _ _ _ _ (le-ltb maxWords (closings s bytes) words) ∙ first-later _ _ _ _ (le-ltb (length z) (closings s bytes) h) ∙ first-here _ _ _ _ e
-
   -- a refused call returns the answer and leaves the slice
   pub read-refused : (number : ℕ) → eqb number 0 ≡ false → readStreamAnswer s bytes z ≡ refused number
       → (r : Answer) → r ≡ refused number → (r ≡ readStreamAnswer s bytes z) × (z ≡ readStreamExit s bytes z)

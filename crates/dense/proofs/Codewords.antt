@@ -9,7 +9,7 @@ use native.Mathlib.Omega.{arith}
 use lib.Dec.{ltb}
 use lib.ListN.{length}
 use Rattle.base.proofs.Tests.{below-or-not, cond-below, cond-not-below}
-use Rattle.dense.specs.Code.{Closing, continuing, maxVocabulary, firstOfTwo, firstOfThree, two, three, code, rankOf, Word, closing, going}
+use Rattle.dense.specs.Code.{Closing, continuing, maxVocabulary, firstOfTwo, firstOfThree, two, three, code, rankOf, Word, closing, continued}
 use Rattle.dense.specs.Laws.{codeLength}
 use Rattle.dense.proofs.Numbers.{div-below, digit-div, digit-mod, digits-below, first-part-below, second-part-below, third-part, third-part-below}
 
@@ -85,12 +85,12 @@ module _ (s : ℕ) (within : Closing s) where
       go : Form s i → Word s (code s i)
       go (one l) = rw (code-one s i l) (closing (continuing s + i) (omega arith) (omega (arith, within .most)))
       go (second x l q) =
-          rw (q, code-two s x l) (going (x / s) (div-below s (continuing s) x some-closing l) (closing (continuing s + x % s) (omega arith) (closing-byte x)))
+          rw (q, code-two s x l) (continued (x / s) (div-below s (continuing s) x some-closing l) (closing (continuing s + x % s) (omega arith) (closing-byte x)))
       go (third x l q) =
           let y : x / s < continuing s * continuing s = div-below s (continuing s * continuing s) x some-closing l in
           rw (q, code-three s x)
-          (going (x / s / continuing s) (div-below (continuing s) (continuing s) (x / s) some-continuing y)
-          (going (x / s % continuing s) (mod-lt (x / s) some-continuing) (closing (continuing s + x % s) (omega arith) (closing-byte x))))
+          (continued (x / s / continuing s) (div-below (continuing s) (continuing s) (x / s) some-continuing y)
+          (continued (x / s % continuing s) (mod-lt (x / s) some-continuing) (closing (continuing s + x % s) (omega arith) (closing-byte x))))
 
   -- reading the codeword of a rank gives the rank
   pub rank-of-code : (i : ℕ) → i < maxVocabulary s → rankOf s (code s i) ≡ i
@@ -113,14 +113,14 @@ module _ (s : ℕ) (within : Closing s) where
   code-of-rank w (closing b h l) n =
       let r : b - continuing s < s = omega (arith, within .most) in
       (first-part-below s (continuing s) (b - continuing s) r, code-one s (b - continuing s) r ∙ ap (λ (r : ℕ). r ∷ []) (omega arith))
-  code-of-rank w (going a ha (closing b h l)) n =
+  code-of-rank w (continued a ha (closing b h l)) n =
       let r : b - continuing s < s = omega (arith, within .most) in
       let d : s * a + (b - continuing s) < s * continuing s = digits-below s (continuing s) a (b - continuing s) r ha in (
         second-part-below s (continuing s) (s * a + (b - continuing s)) d,
         code-two s (s * a + (b - continuing s)) d
             ∙ rw (digit-div s a (b - continuing s) r, digit-mod s a (b - continuing s) r) (ap (λ (r : ℕ). a ∷ r ∷ []) (omega arith)),
       )
-  code-of-rank w (going a ha (going a′ ha′ (closing b h l))) n =
+  code-of-rank w (continued a ha (continued a′ ha′ (closing b h l))) n =
       let r : b - continuing s < s = omega (arith, within .most) in
       let u : continuing s * a + a′ < continuing s * continuing s = digits-below (continuing s) (continuing s) a a′ ha′ ha in
       let d : s * (continuing s * a + a′) + (b - continuing s) < s * (continuing s * continuing s) = digits-below s (continuing s * continuing s) (continuing s * a + a′) (b - continuing s) r u in (
@@ -129,5 +129,5 @@ module _ (s : ℕ) (within : Closing s) where
             ∙ rw (digit-div s (continuing s * a + a′) (b - continuing s) r, digit-mod s (continuing s * a + a′) (b - continuing s) r, digit-div (continuing s) a a′ ha′, digit-mod (continuing s) a a′ ha′)
             (ap (λ (r : ℕ). a ∷ a′ ∷ r ∷ []) (omega arith)),
       )
-  code-of-rank w (going a ha (going a′ ha′ (going a″ ha″ (closing b h l)))) n = absurd (omega arith)
-  code-of-rank w (going a ha (going a′ ha′ (going a″ ha″ (going b h u)))) n = absurd (omega arith)
+  code-of-rank w (continued a ha (continued a′ ha′ (continued a″ ha″ (closing b h l)))) n = absurd (omega arith)
+  code-of-rank w (continued a ha (continued a′ ha′ (continued a″ ha″ (continued b h u)))) n = absurd (omega arith)

@@ -15,7 +15,7 @@ use Rattle.base.proofs.Fronts.{front-more}
 use Rattle.base.proofs.Lists.{all-imp, all-map, all-of-pass, pass-of-all, filter-append, filter-most, map-map}
 use Rattle.base.proofs.Segments.{flatten-append, length-flatten, flatten-all}
 use Rattle.base.proofs.Cuts.{flatten-cut, Inner, cut-inner}
-use Rattle.dense.specs.Code.{Closing, continuing, closes, maxVocabulary, code, rankOf, Word, closing, going}
+use Rattle.dense.specs.Code.{Closing, continuing, closes, maxVocabulary, code, rankOf, Word, closing, continued}
 use Rattle.dense.specs.Streams.{stream, codewords, isWhole, isBroken, streamText, closings}
 use Rattle.dense.specs.Laws.{codeLength}
 use Rattle.dense.proofs.Codewords.{code-length, code-short, code-word, rank-of-code, code-of-rank}
@@ -121,7 +121,7 @@ closings-words s (w ∷ ws) a = word w (a .0) (flatten ws) ∙ ap suc (closings-
   where
     word : (w : List ℕ) → Word s w → (xs : List ℕ) → length (filterBy (closes s) (w ++ xs)) ≡ suc (length (filterBy (closes s) xs))
     word w (closing b h l) xs = rw (is-closing s b h)
-    word w (going b {bs} h u) xs = rw (not-closing s b h) (word bs u xs)
+    word w (continued b {bs} h u) xs = rw (not-closing s b h) (word bs u xs)
 
 -- ---- codewords of bytes
 
@@ -133,7 +133,7 @@ codewords-words s (w ∷ ws) a = word w (a .0) (flatten ws) ∙ ap (λ (r : List
   where
     word : (w : List ℕ) → Word s w → (xs : List ℕ) → cutAfter (closes s) (w ++ xs) ≡ w ∷ cutAfter (closes s) xs
     word w (closing b h l) xs = rw (is-closing s b h)
-    word w (going b {bs} h u) xs = rw (not-closing s b h, word bs u xs)
+    word w (continued b {bs} h u) xs = rw (not-closing s b h, word bs u xs)
 
 -- the bytes are their codewords one after another
 pub flatten-codewords : (s : ℕ) (bytes : List ℕ) → flatten (codewords s bytes) ≡ bytes
@@ -143,10 +143,10 @@ flatten-codewords s bytes = flatten-cut (closes s) bytes
 -- a codeword of at most three bytes is whole
 pub word-whole : (s : ℕ) (w : List ℕ) → Word s w → length w ≤ 3 → isWhole s w ≡ true
 word-whole s w (closing b h l) n = is-closing s b h
-word-whole s w (going a ha (closing b h l)) n = is-closing s b h
-word-whole s w (going a ha (going a′ ha′ (closing b h l))) n = is-closing s b h
-word-whole s w (going a ha (going a′ ha′ (going a″ ha″ (closing b h l)))) n = absurd (omega arith)
-word-whole s w (going a ha (going a′ ha′ (going a″ ha″ (going b h u)))) n = absurd (omega arith)
+word-whole s w (continued a ha (closing b h l)) n = is-closing s b h
+word-whole s w (continued a ha (continued a′ ha′ (closing b h l))) n = is-closing s b h
+word-whole s w (continued a ha (continued a′ ha′ (continued a″ ha″ (closing b h l)))) n = absurd (omega arith)
+word-whole s w (continued a ha (continued a′ ha′ (continued a″ ha″ (continued b h u)))) n = absurd (omega arith)
 
 -- a codeword: well formed, of at most three bytes
 pub record Whole (s : ℕ) (w : List ℕ) : Type 0 where
@@ -158,10 +158,10 @@ pub whole-word : (s : ℕ) (w : List ℕ) → isWhole s w ≡ true → Inner (cl
 whole-word s [] e i b = absurd (false≢true e)
 whole-word s (x ∷ []) e i b = record { word = closing x (leb-true (continuing s) x e) (b .0); short = omega arith }
 whole-word s (x ∷ y ∷ []) e i b =
-    record { word = going x (leb-false (continuing s) x (i .0)) (closing y (leb-true (continuing s) y e) (b .1 .0)); short = omega arith }
+    record { word = continued x (leb-false (continuing s) x (i .0)) (closing y (leb-true (continuing s) y e) (b .1 .0)); short = omega arith }
 whole-word s (x ∷ y ∷ z ∷ []) e i b =
     record {
-      word = going x (leb-false (continuing s) x (i .0)) (going y (leb-false (continuing s) y (i .1 .0)) (closing z (leb-true (continuing s) z e) (b .1 .1 .0)));
+      word = continued x (leb-false (continuing s) x (i .0)) (continued y (leb-false (continuing s) y (i .1 .0)) (closing z (leb-true (continuing s) z e) (b .1 .1 .0)));
       short = omega arith;
     }
 whole-word s (x ∷ y ∷ z ∷ f ∷ r) e i b = absurd (false≢true e)

@@ -9,8 +9,8 @@ use Rattle.base.specs.Lists.{Below}
 use Rattle.base.specs.Answers.{accepted}
 use Rattle.base.proofs.Lists.{below-weaken}
 use Rattle.dense.specs.Code.{Closing, maxVocabulary}
-use Rattle.dense.specs.Streams.{stream, streamText, writeStreamAnswer, writeStreamExit, readStreamAnswer, readStreamExit}
-use Rattle.dense.specs.Laws.{streamWritten, DenseExact}
+use Rattle.dense.specs.Streams.{stream, streamText, closings, writeStreamAnswer, writeStreamExit, readStreamAnswer, readStreamExit}
+use Rattle.dense.specs.Laws.{streamWritten, textRead, DenseExact}
 use Rattle.dense.proofs.Codewords.{code-word, code-length, rank-of-code, code-of-rank}
 use Rattle.dense.proofs.Streams.{stream-length, stream-not-broken, stream-closings, text-of-stream, stream-text-below, stream-of-text, closings-whole, length-stream-text}
 use Rattle.dense.proofs.Calls.{Writable, writable-accepted, accepted-writable, writable-written, Readable, readable-accepted, accepted-readable, readable-read}
@@ -44,11 +44,18 @@ module _ (s : ℕ) (within : Closing s) where
             ∙ readable-read s (stream s t) y r ∙ text-of-stream s within t b,
       )
 
-  pub by-calls-back : (bytes y z : List ℕ) (vocab : ℕ) → Below 256 bytes → readStreamAnswer s bytes y .refusal ≡ 0
-      → 1 ≤ vocab → vocab ≤ maxVocabulary s → Below vocab (streamText s bytes) → length bytes ≤ length z
+  -- what an accepted call has read is the text of the stream
+  read-is-text : (bytes y : List ℕ) → Below 256 bytes → Readable s bytes y → textRead s bytes y ≡ streamText s bytes
+  unfolding textRead
+  read-is-text bytes y b r =
+      let words : closings s bytes ≡ length (streamText s bytes) = omega (arith, closings-whole s bytes b (r .whole), length-stream-text s bytes) in
+      ap (λ (a : Answer). take (a .value) (readStreamExit s bytes y)) (readable-accepted s bytes y r ∙ ap accepted words) ∙ readable-read s bytes y r
+
+  -- a text that was read is accepted by the call that writes
+  read-writable : (bytes y z : List ℕ) (vocab : ℕ) → Below 256 bytes → Readable s bytes y → 1 ≤ vocab → vocab ≤ maxVocabulary s
+      → Below vocab (streamText s bytes) → length bytes ≤ length z
       → (writeStreamAnswer s vocab (streamText s bytes) z ≡ accepted (length bytes)) × (take (length bytes) (writeStreamExit s vocab (streamText s bytes) z) ≡ bytes)
-  by-calls-back bytes y z vocab b e one most ranks room =
-      let r : Readable s bytes y = accepted-readable s bytes y e in
+  read-writable bytes y z vocab b r one most ranks room =
       let q : stream s (streamText s bytes) ≡ bytes = stream-of-text s within bytes b (r .whole) in
       let w : Writable s vocab (streamText s bytes) z = record {
         someWord = one;
@@ -61,6 +68,14 @@ module _ (s : ℕ) (within : Closing s) where
         ap (λ (x : List ℕ). take (length x) (writeStreamExit s vocab (streamText s bytes) z)) (sym q)
             ∙ writable-written s vocab (streamText s bytes) z w ∙ q,
       )
+
+  pub by-calls-back : (bytes y z : List ℕ) (vocab : ℕ) → Below 256 bytes → readStreamAnswer s bytes y .refusal ≡ 0
+      → 1 ≤ vocab → vocab ≤ maxVocabulary s → Below vocab (textRead s bytes y) → length bytes ≤ length z
+      → (writeStreamAnswer s vocab (textRead s bytes y) z ≡ accepted (length bytes)) × (take (length bytes) (writeStreamExit s vocab (textRead s bytes y) z) ≡ bytes)
+  by-calls-back bytes y z vocab b e one most ranks room =
+      let r : Readable s bytes y = accepted-readable s bytes y e in
+      let is : textRead s bytes y ≡ streamText s bytes = read-is-text bytes y b r in
+      rw is (read-writable bytes y z vocab b r one most (rw is at ranks) room)
 
 pub dense-exact : DenseExact
 dense-exact = record {

@@ -11,25 +11,25 @@ use Rattle.base.proofs.Fronts.{written-sets}
 use Rattle.dense.specs.declared.Codeword.{Codeword}
 use Rattle.dense.specs.Code.{code}
 use Rattle.dense.specs.Laws.{codeLength}
-use Rattle.dense.specs.Words.{bytesOf}
+use Rattle.dense.specs.Words.{codewordBytes}
 use Rattle.dense.proofs.Codewords.{code-length, code-short}
 
 -- the bytes of a codeword, by its length
-pub bytes-one : (w : Codeword) → w .length ≡ 1 → bytesOf w ≡ w .first ∷ []
+pub bytes-one : (w : Codeword) → w .length ≡ 1 → codewordBytes w ≡ w .first ∷ []
 bytes-one w e = rw e
 
-pub bytes-two : (w : Codeword) → w .length ≡ 2 → bytesOf w ≡ w .first ∷ w .second ∷ []
+pub bytes-two : (w : Codeword) → w .length ≡ 2 → codewordBytes w ≡ w .first ∷ w .second ∷ []
 bytes-two w e = rw e
 
-pub bytes-three : (w : Codeword) → w .length ≡ 3 → bytesOf w ≡ w .first ∷ w .second ∷ w .third ∷ []
+pub bytes-three : (w : Codeword) → w .length ≡ 3 → codewordBytes w ≡ w .first ∷ w .second ∷ w .third ∷ []
 bytes-three w e = rw e
 
 -- their number
-pub bytes-length : (w : Codeword) → w .length ≤ 3 → length (bytesOf w) ≡ w .length
+pub bytes-length : (w : Codeword) → w .length ≤ 3 → length (codewordBytes w) ≡ w .length
 bytes-length w h = length-take (w .length) (w .first ∷ w .second ∷ w .third ∷ []) ∙ omega arith
 
 -- the codeword of a rank as it is handed on: its length, and what it leaves in a stream
-module _ (s rank : ℕ) (w : Codeword) (is : bytesOf w ≡ code s rank) (short : w .length ≤ 3) where
+module _ (s rank : ℕ) (w : Codeword) (is : codewordBytes w ≡ code s rank) (short : w .length ≤ 3) where
   pub encoded-length : w .length ≡ length (code s rank)
   encoded-length = sym (bytes-length w short) ∙ ap length is
 
@@ -41,7 +41,7 @@ module _ (s rank : ℕ) (w : Codeword) (is : bytesOf w ≡ code s rank) (short :
 
   module _ (z : List ℕ) (at : ℕ) (room : at + codeLength s rank ≤ length z) where
     -- stored byte by byte, it is written from the position on
-    stored : (bytes : List ℕ) → bytesOf w ≡ bytes → sets z at bytes ≡ written (code s rank) at z
+    stored : (bytes : List ℕ) → codewordBytes w ≡ bytes → sets z at bytes ≡ written (code s rank) at z
     stored bytes e =
         ap (sets z at) (sym e ∙ is) ∙ written-sets (code s rank) z at (omega (arith, code-length s rank))
 

@@ -62,4 +62,4 @@ rankOf s (a ∷ b ∷ e ∷ f ∷ rest) = 0
 -- a codeword: continuing bytes, and then one closing byte
 pub data Word (s : ℕ) : List ℕ → Type 0 where
   closing : (b : ℕ) → continuing s ≤ b → b < 256 → Word s (b ∷ [])
-  going : (b : ℕ) {bs : List ℕ} → b < continuing s → Word s bs → Word s (b ∷ bs)
+  continued : (b : ℕ) {bs : List ℕ} → b < continuing s → Word s bs → Word s (b ∷ bs)

@@ -26,6 +26,10 @@ pub record CodeExact (s : ℕ) : Type 0 where
 unfoldable pub streamWritten : ℕ → ℕ → List ℕ → List ℕ → List ℕ
 streamWritten s vocab t z = take (writeStreamAnswer s vocab t z .value) (writeStreamExit s vocab t z)
 
+-- and what one has read
+unfoldable pub textRead : ℕ → List ℕ → List ℕ → List ℕ
+textRead s bytes y = take (readStreamAnswer s bytes y .value) (readStreamExit s bytes y)
+
 pub record StreamsExact (s : ℕ) : Type 0 where
   -- the length of a stream is the sum of the lengths of its codewords
   pub sized : (t : List ℕ) → length (stream s t) ≡ total (map (codeLength s) t)
@@ -47,9 +51,9 @@ pub record StreamsExact (s : ℕ) : Type 0 where
   -- that holds it and into any slice as long as the stream, and gives the stream
   pub byCallsBack :
       (bytes y z : List ℕ) (vocab : ℕ) → Below 256 bytes → readStreamAnswer s bytes y .refusal ≡ 0 →
-      1 ≤ vocab → vocab ≤ maxVocabulary s → Below vocab (streamText s bytes) → length bytes ≤ length z →
-      (writeStreamAnswer s vocab (streamText s bytes) z ≡ accepted (length bytes))
-      × (take (length bytes) (writeStreamExit s vocab (streamText s bytes) z) ≡ bytes)
+      1 ≤ vocab → vocab ≤ maxVocabulary s → Below vocab (textRead s bytes y) → length bytes ≤ length z →
+      (writeStreamAnswer s vocab (textRead s bytes y) z ≡ accepted (length bytes))
+      × (take (length bytes) (writeStreamExit s vocab (textRead s bytes y) z) ≡ bytes)
 
 -- Statement: at every number of closing values.
 pub record DenseExact : Type 0 where

@@ -4,15 +4,13 @@ use mathlib.Core.Path.{_≡_}
 use mathlib.Core.Bool.{true, false}
 use mathlib.Core.List.{List, [], _∷_, map}
 use Rattle.base.specs.Answers.{accepted, refused, refusedAt}
+use Rattle.base.specs.Samples.{sampleText}
 use Rattle.dense.specs.Code.{maxVocabulary, code}
 use Rattle.dense.specs.Streams.{stream, isBroken, streamText, writeStreamAnswer, writeStreamExit, readStreamAnswer, readStreamExit}
 
--- the stream of the sample, and its text
+-- the stream of the sample
 abbrev pub sampleStream : List ℕ
 sampleStream = 0x80 ∷ 0x00 ∷ 0x80 ∷ 0x80 ∷ 0x00 ∷ 0x81 ∷ 0x00 ∷ 0x80 ∷ []
-
-abbrev pub sampleText : List ℕ
-sampleText = 0 ∷ 128 ∷ 0 ∷ 129 ∷ 128 ∷ []
 
 -- the codes of 0, 127, 128, 255, 256, 16511, 16512, 2113663
 abbrev pub PublishedCodes : Type 0

@@ -7,8 +7,8 @@ use Rattle.dense.specs.declared.Codeword.{Codeword}
 use Rattle.dense.specs.Code.{closes}
 
 -- the bytes of a codeword
-abbrev pub bytesOf : Codeword → List ℕ
-bytesOf w = take (w .length) (w .first ∷ w .second ∷ w .third ∷ [])
+abbrev pub codewordBytes : Codeword → List ℕ
+codewordBytes w = take (w .length) (w .first ∷ w .second ∷ w .third ∷ [])
 
 -- whether the first n bytes are there and continue
 abbrev pub beginsOpen : ℕ → ℕ → List ℕ → Bool

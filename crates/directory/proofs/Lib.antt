@@ -1,3 +1,4 @@
-pub mod Laid
+pub mod FirstRows
 pub mod Rows
 pub mod Searches
+pub mod Theorem

@@ -14,9 +14,9 @@ use Rattle.base.proofs.Lists.{same-yes, same-true}
 use Rattle.base.proofs.Counts.{count-slice}
 use Rattle.base.proofs.Ranges.{length-map-range, getD-map-range}
 use Rattle.directory.specs.Counters.{row, superblockRow, blockRow, superblockRows, blockRows, isDirectory, Directory, maxBytes, Sizes}
-use Rattle.directory.specs.Tables.{laid}
+use Rattle.directory.specs.Tables.{firstRows}
 use Rattle.base.proofs.Parts.{quotient-inside}
-use Rattle.directory.proofs.Laid.{laid-suc, laid-length, laid-at}
+use Rattle.directory.proofs.FirstRows.{first-rows-suc, first-rows-length, first-rows-at}
 
 -- ---- one row
 
@@ -87,10 +87,10 @@ module _ {block per : ℕ} {bytes : List ℕ} (sizes : Sizes block per bytes) wh
 
 -- ---- a table: a row of 256 numbers for each r with r × m at most n
 
-module _ (f : ℕ → List ℕ) (wide : (r : ℕ) → length (f r) ≡ 256) (m n : ℕ) (some : 1 ≤ m) (table : List ℕ) (is : table ≡ laid f (suc (n / m))) where
+module _ (f : ℕ → List ℕ) (wide : (r : ℕ) → length (f r) ≡ 256) (m n : ℕ) (some : 1 ≤ m) (table : List ℕ) (is : table ≡ firstRows f (suc (n / m))) where
   -- it has 256 numbers a row
   pub table-length : length table ≡ suc (n / m) * 256
-  table-length = ap length is ∙ laid-length f 256 wide (suc (n / m))
+  table-length = ap length is ∙ first-rows-length f 256 wide (suc (n / m))
 
   -- it has a row for each r
   pub table-rows : length table / 256 ≡ suc (n / m)
@@ -103,7 +103,7 @@ module _ (f : ℕ → List ℕ) (wide : (r : ℕ) → length (f r) ≡ 256) (m n
 
     -- number x of row r
     pub table-at : getD table (r * 256 + x) 0 ≡ getD (f r) x 0
-    table-at = ap (λ (l : List ℕ). getD l (r * 256 + x) 0) is ∙ laid-at f 256 wide (suc (n / m)) r x (quotient-inside n m r some here) byte
+    table-at = ap (λ (l : List ℕ). getD l (r * 256 + x) 0) is ∙ first-rows-at f 256 wide (suc (n / m)) r x (quotient-inside n m r some here) byte
 
 -- ---- the two tables of a directory
 
@@ -111,12 +111,12 @@ module _ (block per : ℕ) (bytes : List ℕ) where
   -- the superblock rows have 256 numbers for each r with r × S ≤ L
   pub superblock-rows-length : length (superblockRows block per bytes) ≡ suc (length bytes / (block * per)) * 256
   unfolding superblockRows
-  superblock-rows-length = laid-length (superblockRow block per bytes) 256 (superblock-row-length block per bytes) (suc (length bytes / (block * per)))
+  superblock-rows-length = first-rows-length (superblockRow block per bytes) 256 (superblock-row-length block per bytes) (suc (length bytes / (block * per)))
 
   -- and the block rows for each r with r × B ≤ L
   pub block-rows-length : length (blockRows block per bytes) ≡ suc (length bytes / block) * 256
   unfolding blockRows
-  block-rows-length = laid-length (blockRow block per bytes) 256 (block-row-length block per bytes) (suc (length bytes / block))
+  block-rows-length = first-rows-length (blockRow block per bytes) 256 (block-row-length block per bytes) (suc (length bytes / block))
 
   -- two slices that are the rows pass the test of a directory
   pub is-directory : (superblocks blocks : List ℕ) → Directory block per bytes superblocks blocks → isDirectory block per bytes superblocks blocks ≡ true
@@ -141,8 +141,8 @@ empty-rows block per = (
   one (blockRow block per []) block (ap row (ap (drop (0 / per * (block * per))) (take-nil (0 * block)) ∙ drop-nil (0 / per * (block * per)))),
 )
   where
-    one : (f : ℕ → List ℕ) (m : ℕ) → f 0 ≡ row [] → laid f (suc (0 / m)) ≡ replicate 256 0
-    one f m e = ap (λ (n : ℕ). laid f (suc n)) (zero-div m) ∙ laid-suc f 0 ∙ e ∙ row-none
+    one : (f : ℕ → List ℕ) (m : ℕ) → f 0 ≡ row [] → firstRows f (suc (0 / m)) ≡ replicate 256 0
+    one f m e = ap (λ (n : ℕ). firstRows f (suc n)) (zero-div m) ∙ first-rows-suc f 0 ∙ e ∙ row-none
 
 -- two slices that are not the rows fail the test
 pub not-directory : (block per : ℕ) (bytes superblocks blocks : List ℕ) → (Directory block per bytes superblocks blocks → ⊥) → isDirectory block per bytes superblocks blocks ≡ false
@@ -151,44 +151,44 @@ not-directory block per bytes superblocks blocks n = false-of (isDirectory block
 -- ---- the numbers of a directory
 
 module _ {block per : ℕ} {bytes superblocks blocks : List ℕ} (sizes : Sizes block per bytes) (directory : Directory block per bytes superblocks blocks) where
-  superblocks-laid : superblocks ≡ laid (superblockRow block per bytes) (suc (length bytes / (block * per)))
+  superblocks-table : superblocks ≡ firstRows (superblockRow block per bytes) (suc (length bytes / (block * per)))
   unfolding superblockRows
-  superblocks-laid = directory .superblocks-are
+  superblocks-table = directory .superblocks-are
 
-  blocks-laid : blocks ≡ laid (blockRow block per bytes) (suc (length bytes / block))
+  blocks-table : blocks ≡ firstRows (blockRow block per bytes) (suc (length bytes / block))
   unfolding blockRows
-  blocks-laid = directory .blocks-are
+  blocks-table = directory .blocks-are
 
   -- there is a superblock row for each r with r × S ≤ L
   pub superblock-rows : length superblocks / 256 ≡ suc (length bytes / (block * per))
-  superblock-rows = table-rows (superblockRow block per bytes) (superblock-row-length block per bytes) (block * per) (length bytes) (superblock-some sizes) superblocks superblocks-laid
+  superblock-rows = table-rows (superblockRow block per bytes) (superblock-row-length block per bytes) (block * per) (length bytes) (superblock-some sizes) superblocks superblocks-table
 
   -- and a block row for each r with r × B ≤ L
   pub block-rows : length blocks / 256 ≡ suc (length bytes / block)
-  block-rows = table-rows (blockRow block per bytes) (block-row-length block per bytes) block (length bytes) (sizes .block-some) blocks blocks-laid
+  block-rows = table-rows (blockRow block per bytes) (block-row-length block per bytes) block (length bytes) (sizes .block-some) blocks blocks-table
 
   module _ (q x : ℕ) (here : q * (block * per) ≤ length bytes) (byte : x < 256) where
     -- the number of x in superblock row q is inside
     pub superblock-inside : q * 256 + x < length superblocks
-    superblock-inside = table-inside (superblockRow block per bytes) (superblock-row-length block per bytes) (block * per) (length bytes) (superblock-some sizes) superblocks superblocks-laid q x here byte
+    superblock-inside = table-inside (superblockRow block per bytes) (superblock-row-length block per bytes) (block * per) (length bytes) (superblock-some sizes) superblocks superblocks-table q x here byte
 
     -- superblock row q counts the bytes before superblock q
     pub superblock-is : getD superblocks (q * 256 + x) 0 ≡ countOf x (take (q * (block * per)) bytes)
     unfolding superblockRow
     superblock-is =
-        table-at (superblockRow block per bytes) (superblock-row-length block per bytes) (block * per) (length bytes) (superblock-some sizes) superblocks superblocks-laid q x here byte
+        table-at (superblockRow block per bytes) (superblock-row-length block per bytes) (block * per) (length bytes) (superblock-some sizes) superblocks superblocks-table q x here byte
         ∙ row-at (take (q * (block * per)) bytes) x byte
 
   module _ (r x : ℕ) (here : r * block ≤ length bytes) (byte : x < 256) where
     -- the number of x in block row r is inside
     pub block-inside : r * 256 + x < length blocks
-    block-inside = table-inside (blockRow block per bytes) (block-row-length block per bytes) block (length bytes) (sizes .block-some) blocks blocks-laid r x here byte
+    block-inside = table-inside (blockRow block per bytes) (block-row-length block per bytes) block (length bytes) (sizes .block-some) blocks blocks-table r x here byte
 
     -- block row r counts the bytes from the start of its superblock to block r
     pub block-is : getD blocks (r * 256 + x) 0 ≡ countOf x (slice (r / per * (block * per)) (r * block) bytes)
     unfolding blockRow
     block-is =
-        table-at (blockRow block per bytes) (block-row-length block per bytes) block (length bytes) (sizes .block-some) blocks blocks-laid r x here byte
+        table-at (blockRow block per bytes) (block-row-length block per bytes) block (length bytes) (sizes .block-some) blocks blocks-table r x here byte
         ∙ row-at (slice (r / per * (block * per)) (r * block) bytes) x byte
 
     -- the two numbers together count the bytes before block r

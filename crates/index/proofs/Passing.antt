@@ -5,14 +5,16 @@ use mathlib.Core.Path.{_≡_, refl, sym, ap, _∙_, subst}
 use mathlib.Core.Bool.{true}
 use mathlib.Core.List.{List, map, flatten}
 use native.Mathlib.Omega.{arith}
-use lib.ListN.{length}
+use lib.ListN.{length, getD}
 use Rattle.base.specs.Lists.{total}
 use Rattle.base.specs.Texts.{maxWords, isText}
 use Rattle.base.proofs.Tests.{and-left, and-right, and-true}
-use Rattle.base.proofs.Segments.{length-flatten, flatten-segments, length-segments}
+use Rattle.base.proofs.Segments.{length-flatten, flatten-segments, length-segments, count-segments, segment-length}
 use Rattle.dense.specs.Code.{Closing, maxVocabulary}
-use Rattle.directory.specs.Counters.{superblockRows, blockRows}
-use Rattle.tree.specs.Nodes.{nodes}
+use Rattle.dense.proofs.Streams.{stream-most}
+use Rattle.directory.specs.Counters.{superblockRows, blockRows, maxBytes, isDirectory}
+use Rattle.directory.proofs.Rows.{is-directory}
+use Rattle.tree.specs.Nodes.{nodeCount, nodes}
 use Rattle.tree.specs.Walks.{node, textOf, Good}
 use Rattle.tree.proofs.Reading.{nodes-good, text-of-nodes}
 use Rattle.tree.proofs.Passing.{text-below, nodes-of-text}
@@ -20,7 +22,7 @@ use Rattle.tree.proofs.Words.{length-of-text}
 use Rattle.index.specs.declared.Shape.{Shape}
 use Rattle.index.specs.Arrays.{Arrays, bytesOf, lengthsOf, indexOf, nodesIn, textIn, passes, sameArrays}
 use Rattle.index.specs.Exact.{IsText, HasIndex}
-use Rattle.index.proofs.Texts.{tested-text, text-tested, arrays-same, same-arrays, nodes-of-index, text-of-index}
+use Rattle.index.proofs.Texts.{tested-text, text-tested, arrays-same, same-arrays, nodes-of-index, text-of-index, length-bytes}
 
 -- what can be tested of the arrays without reading their text
 pub record Tested (s : ℕ) (shape : Shape) (a : Arrays) : Type 0 where
@@ -105,3 +107,25 @@ module _ (s : ℕ) (within : Closing s) (shape : Shape) (fits : shape .vocabular
 
   pub tests-passes : (a : Arrays) → Tested s shape a → passes s shape a ≡ true
   tests-passes a w = text-passes (textIn s a) a (tests-text a w)
+
+  -- arrays that pass have each of what is tested
+  module _ (a : Arrays) (e : passes s shape a ≡ true) where
+    tested : Tested s shape a
+    tested = passes-tests a e
+
+    pub passes-number : length (a .lengths) ≡ nodeCount s (shape .vocabulary)
+    passes-number = sym (count-segments (a .lengths) (a .bytes)) ∙ tested .good .number
+
+    pub passes-whole : total (a .lengths) ≡ length (a .bytes)
+    passes-whole = tested .whole
+
+    pub passes-bytes : length (a .bytes) ≤ maxBytes
+    passes-bytes =
+        let h : HasIndex s shape (textIn s a) a = passes-text a e in
+        omega (arith, ap (λ (x : Arrays). length (x .bytes)) (h .index), length-bytes s within shape fits (textIn s a) (h .text .ranks), stream-most s (textIn s a), h .text .short)
+
+    pub passes-root : getD (a .lengths) 0 0 ≤ maxWords
+    passes-root = omega (arith, tested .short, segment-length (a .lengths) (a .bytes) 0 (omega (arith, tested .whole)), tested .whole)
+
+    pub passes-directory : isDirectory (shape .block) (shape .«per_superblock») (a .bytes) (a .superblocks) (a .blocks) ≡ true
+    passes-directory = is-directory (shape .block) (shape .«per_superblock») (a .bytes) (a .superblocks) (a .blocks) record { superblocks-are = tested .superblocks-are; blocks-are = tested .blocks-are }

@@ -1,25 +1,29 @@
 -- The index of a text is read as the text, and has as many bytes as the text's stream. Assumes nothing.
-use Prim.Native.Nat.{ℕ, _≤_}
-use mathlib.Core.Path.{_≡_, sym, ap, _∙_}
+use Prim.Native.Nat.{ℕ, suc, _*_, _/_, _≤_}
+use mathlib.Core.Path.{_≡_, refl, sym, ap, _∙_}
 use mathlib.Core.Bool.{true, _&&_}
 use mathlib.Core.List.{List}
+use native.Mathlib.Omega.{arith}
 use lib.ListN.{length}
-use Rattle.base.specs.Lists.{Below, same, total}
+use Rattle.base.specs.Lists.{Below, rangeFrom, same, total}
 use Rattle.base.specs.Texts.{isText}
 use Rattle.base.proofs.Tests.{and-left, and-right, and-true}
-use Rattle.base.proofs.Lists.{same-yes, same-true}
+use Rattle.base.proofs.Lists.{same-yes, same-true, map-map}
+use Rattle.base.proofs.Ranges.{length-map-range}
 use Rattle.base.proofs.Segments.{length-flatten, segments-flatten}
 use Rattle.base.proofs.Texts.{text-length, text-below, is-text}
 use Rattle.dense.specs.Code.{Closing, maxVocabulary}
 use Rattle.dense.specs.Streams.{stream}
-use Rattle.dense.proofs.Streams.{stream-length}
-use Rattle.tree.specs.Nodes.{nodes}
+use Rattle.dense.proofs.Streams.{stream-length, stream-most}
+use Rattle.directory.specs.Counters.{superblockRows, blockRows, maxBytes}
+use Rattle.directory.proofs.Rows.{superblock-rows-length, block-rows-length}
+use Rattle.tree.specs.Nodes.{nodeCount, nodeBytes, nodes}
 use Rattle.tree.specs.Walks.{textOf}
 use Rattle.tree.proofs.Reading.{text-of-nodes}
 use Rattle.tree.proofs.Visits.{total-nodes}
 use Rattle.index.specs.declared.Shape.{Shape}
 use Rattle.index.specs.Arrays.{Arrays, bytesOf, lengthsOf, indexOf, nodesIn, textIn, sameArrays}
-use Rattle.index.specs.Exact.{IsText}
+use Rattle.index.specs.Exact.{WithinLimits, IsText}
 
 -- the test of a text, as a fact
 pub tested-text : (vocab : ℕ) (t : List ℕ) → isText vocab t ≡ true → IsText vocab t
@@ -72,3 +76,42 @@ module _ (s : ℕ) (within : Closing s) (shape : Shape) (fits : shape .vocabular
   pub length-bytes : length (indexOf s shape t .bytes) ≡ length (stream s t)
   unfolding indexOf bytesOf lengthsOf
   length-bytes = length-flatten (nodes s (shape .vocabulary) t) ∙ total-lengths
+
+-- ---- what the index of a text has of each
+
+module _ (s : ℕ) (shape : Shape) (t : List ℕ) where
+  -- the rows are those of its bytes
+  pub index-superblocks : superblockRows (shape .block) (shape .«per_superblock») (indexOf s shape t .bytes) ≡ indexOf s shape t .superblocks
+  unfolding indexOf
+  index-superblocks = refl
+
+  pub index-blocks : blockRows (shape .block) (shape .«per_superblock») (indexOf s shape t .bytes) ≡ indexOf s shape t .blocks
+  unfolding indexOf
+  index-blocks = refl
+
+  -- there is a length for each node
+  pub count-lengths : length (indexOf s shape t .lengths) ≡ nodeCount s (shape .vocabulary)
+  unfolding indexOf lengthsOf nodes
+  count-lengths =
+      ap length (map-map length (λ (k : ℕ). nodeBytes s k t) (rangeFrom 0 (nodeCount s (shape .vocabulary))))
+      ∙ length-map-range _ 0 (nodeCount s (shape .vocabulary))
+
+  module _ (within : Closing s) (limits : WithinLimits s shape) (text : IsText (shape .vocabulary) t) where
+    -- there is a byte for each byte of the stream
+    pub count-bytes : length (indexOf s shape t .bytes) ≡ length (stream s t)
+    count-bytes = length-bytes s within shape (limits .mostWords) t (text .ranks)
+
+    -- of which there are at most three a word
+    pub stream-short : length (stream s t) ≤ maxBytes
+    stream-short = omega (arith, stream-most s t, text .short)
+
+    -- and the rows of so many bytes
+    pub count-superblocks : length (indexOf s shape t .superblocks) ≡ suc (length (stream s t) / (shape .block * shape .«per_superblock»)) * 256
+    count-superblocks =
+        ap length (sym index-superblocks) ∙ superblock-rows-length (shape .block) (shape .«per_superblock») (indexOf s shape t .bytes)
+        ∙ ap (λ (l : ℕ). suc (l / (shape .block * shape .«per_superblock»)) * 256) count-bytes
+
+    pub count-blocks : length (indexOf s shape t .blocks) ≡ suc (length (stream s t) / shape .block) * 256
+    count-blocks =
+        ap length (sym index-blocks) ∙ block-rows-length (shape .block) (shape .«per_superblock») (indexOf s shape t .bytes)
+        ∙ ap (λ (l : ℕ). suc (l / shape .block) * 256) count-bytes

@@ -44,7 +44,7 @@ fn refused(answer: Answer) {
 
 // Checks the arrays with these bytes and superblock counters.
 fn check(tried: &[u8], bytes: &[u8], counters: &[u32], otherwise: &[u8]) {
-    let answer = index::check(shape_of(130, 8, 1), &LENGTHS, bytes, counters, &BLOCKS);
+    let answer = checking::check(shape_of(130, 8, 1), &LENGTHS, bytes, counters, &BLOCKS);
     start(tried);
     if answer.refusal == 0 {
         printing::words(b"passed");

@@ -15,7 +15,8 @@ use Rattle.dense.specs.Code.{Closing}
 use Rattle.index.specs.declared.Shape.{Shape}
 use Rattle.index.specs.Arrays.{Arrays, textIn}
 use Rattle.index.specs.Entries.{checkAnswer}
-use Rattle.index.proofs.Exact.{index-exact, check-limits}
+use Rattle.index.proofs.Refusals.{check-limits}
+use Rattle.index.proofs.Exact.{index-exact}
 use Rattle.phrases.specs.Phrases.{stands, places}
 use Rattle.phrases.proofs.Exact.{places-are-exact}
 use Rattle.pages.specs.Runs

@@ -124,8 +124,8 @@ fn written_page(
     requires { ⌜ Closing s × (isAccepted (pageAnswer (callOf s shape (arrays (now lengths) (now bytes) (now superblocks) (now blocks)) (now words) start count (now lines)) state) ≡ true) × (state .finished ≡ false) ⌝ }
     ensures { λ r. ⌜ (r ≡ pageOf (callOf s shape (arrays (now (lengths .entry)) (now (bytes .entry)) (now (superblocks .entry)) (now (blocks .entry))) (now (words .entry)) start count (now (lines .entry))) state .page) × (now (lines .exit) ≡ pageOf (callOf s shape (arrays (now (lengths .entry)) (now (bytes .entry)) (now (superblocks .entry)) (now (blocks .entry))) (now (words .entry)) start count (now (lines .entry))) state .lines) ⌝ }
 {
-    let mut starts = [0u32; index::MAX_STARTS];
-    index::node_starts(lengths, &mut starts);
+    let mut starts = [0u32; starts::MAX_STARTS];
+    starts::node_starts(lengths, &mut starts);
     let end = start + count;
     let written = searches::write_page(
         s,
@@ -166,7 +166,7 @@ pub fn page_of(
     requires { ⌜ Closing s ⌝ }
     ensures { λ r. ⌜ (r ≡ pageOf (callOf s shape (arrays (now (lengths .entry)) (now (bytes .entry)) (now (superblocks .entry)) (now (blocks .entry))) (now (words .entry)) start count (now (lines .entry))) state .page) × (now (lines .exit) ≡ pageOf (callOf s shape (arrays (now (lengths .entry)) (now (bytes .entry)) (now (superblocks .entry)) (now (blocks .entry))) (now (words .entry)) start count (now (lines .entry))) state .lines) ⌝ }
 {
-    let checked = index::check_of(s, shape, lengths, bytes, superblocks, blocks);
+    let checked = checking::check_of(s, shape, lengths, bytes, superblocks, blocks);
     if checked.refusal != 0 {
         return Page::unwritten(checked, state);
     }

@@ -58,7 +58,7 @@ fn list_index(vocabulary: usize, text: &[u32], output: &mut [u8]) -> usize
         block: 256,
         per_superblock: 8,
     };
-    let built = index::build(
+    let built = building::build(
         shape,
         text,
         &mut lengths,

@@ -124,12 +124,12 @@ pub fn ask_of(
     requires { ⌜ Closing s ⌝ }
     ensures { λ r. ⌜ r ≡ askAnswer s shape (arrays (now (lengths .entry)) (now (bytes .entry)) (now (superblocks .entry)) (now (blocks .entry))) (now (words .entry)) question ⌝ }
 {
-    let checked = index::check_of(s, shape, lengths, bytes, superblocks, blocks);
+    let checked = checking::check_of(s, shape, lengths, bytes, superblocks, blocks);
     if checked.refusal != 0 {
         return checked;
     }
-    let mut starts = [0u32; index::MAX_STARTS];
-    index::node_starts(lengths, &mut starts);
+    let mut starts = [0u32; starts::MAX_STARTS];
+    starts::node_starts(lengths, &mut starts);
     answering::answer(
         s,
         shape,
@@ -182,7 +182,7 @@ pub fn passage_of(
     requires { ⌜ Closing s ⌝ }
     ensures { λ r. ⌜ (r ≡ passageAnswer s shape (arrays (now (lengths .entry)) (now (bytes .entry)) (now (superblocks .entry)) (now (blocks .entry))) place (now (ranks .entry))) × (now (ranks .exit) ≡ passageExit s shape (arrays (now (lengths .entry)) (now (bytes .entry)) (now (superblocks .entry)) (now (blocks .entry))) place (now (ranks .entry))) ⌝ }
 {
-    let checked = index::check_of(s, shape, lengths, bytes, superblocks, blocks);
+    let checked = checking::check_of(s, shape, lengths, bytes, superblocks, blocks);
     if checked.refusal != 0 {
         return checked;
     }
@@ -193,8 +193,8 @@ pub fn passage_of(
     if n - place < ranks.len() {
         return Answer::refused(refusal::PLACE);
     }
-    let mut starts = [0u32; index::MAX_STARTS];
-    index::node_starts(lengths, &mut starts);
+    let mut starts = [0u32; starts::MAX_STARTS];
+    starts::node_starts(lengths, &mut starts);
     searches::read_passage(
         s,
         shape,

@@ -4,7 +4,8 @@ use mathlib.Core.List.{[], _∷_}
 use lib.IntN.{pos}
 use Rattle.base.specs.Answers.{accepted}
 use Rattle.dense.specs.Streams.{stream, streamText}
-use Rattle.dense.specs.Samples.{sampleStream, sampleText, PublishedCodes}
+use Rattle.base.specs.Samples.{sampleText}
+use Rattle.dense.specs.Samples.{sampleStream, PublishedCodes}
 use Rattle.tree.specs.Nodes.{nodes}
 use Rattle.index.specs.declared.Shape.{Shape}
 use Rattle.index.specs.Arrays.{Arrays, indexOf, textIn}

@@ -12,7 +12,7 @@ use Rattle.base.proofs.Fronts.{take-front}
 use Rattle.base.proofs.Tests.{false-of}
 use Rattle.dense.specs.Code.{code}
 use Rattle.dense.specs.declared.Codeword.{Codeword}
-use Rattle.dense.specs.Words.{bytesOf}
+use Rattle.dense.specs.Words.{codewordBytes}
 use Rattle.dense.proofs.Words.{encoded-some}
 use Rattle.tree.specs.Nodes.{firstByte}
 use Rattle.index.specs.declared.Shape.{Shape}
@@ -24,7 +24,7 @@ use Rattle.phrases.proofs.Standing.{stands-inside, stands-word, stands-yes}
 use Rattle.searches.specs.Searching.{firstBytes, Searchable, Searching}
 
 -- the first byte of a codeword as it is handed on
-pub encoded-first : (s rank : ℕ) (w : Codeword) → bytesOf w ≡ code s rank → w .length ≤ 3 → w .first ≡ firstByte (code s rank)
+pub encoded-first : (s rank : ℕ) (w : Codeword) → codewordBytes w ≡ code s rank → w .length ≤ 3 → w .first ≡ firstByte (code s rank)
 encoded-first s rank w is short =
     sym (getD-take (w .length) (w .first ∷ w .second ∷ w .third ∷ []) 0 256 (encoded-some s rank w is short)) ∙ ap firstByte is
 

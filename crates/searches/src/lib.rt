@@ -2,7 +2,7 @@
 // each candidate. A search costs the occurrences of its rarest word, never a scan of the text.
 //
 // No function of this crate is an entry: each requires that the four slices have passed the check,
-// and `starts` is the table that `index::node_starts` fills.
+// and `starts` is the table that `starts::node_starts` fills.
 ghost use mathlib.Core.Path.{_≡_};
 ghost use mathlib.Core.Bool.{false};
 ghost use Prim.Native.Nat.{_+_, _≤_, _<_};

@@ -6,7 +6,7 @@ ghost use lib.ListN.{length};
 ghost use Rattle.base.specs.Answers.{written};
 ghost use Rattle.dense.specs.Code.{Closing};
 ghost use Rattle.index.specs.Arrays.{arrays, textIn};
-ghost use Rattle.index.specs.Starts.{maxStarts, NodeStarts};
+ghost use Rattle.starts.specs.Starts.{maxStarts, NodeStarts};
 ghost use Rattle.words.specs.Ready.{Ready};
 ghost use Rattle.questions.specs.Answering.{questionAnswer};
 ghost use Rattle.sheets.specs.Sheets.{pairOf, sheetAnswer};
@@ -31,14 +31,14 @@ pub fn prepare(
     requires { ⌜ Closing s × (maxStarts ≤ length (now starts)) ⌝ }
     ensures { λ r. ⌜ (r ≡ sheetAnswer s shape (arrays (now (lengths .entry)) (now (bytes .entry)) (now (superblocks .entry)) (now (blocks .entry))) asked room) × (r .refusal ≡ 0 → NodeStarts (now (lengths .entry)) (now (starts .exit))) ⌝ }
 {
-    let checked = index::check_of(s, shape, lengths, bytes, superblocks, blocks);
+    let checked = checking::check_of(s, shape, lengths, bytes, superblocks, blocks);
     if checked.refusal != 0 {
         return checked;
     }
     if room / 2 < asked {
         return Answer::refused(refusal::PAGE);
     }
-    index::node_starts(lengths, starts);
+    starts::node_starts(lengths, starts);
     Answer::accepted(2 * asked)
 }
 

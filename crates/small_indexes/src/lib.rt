@@ -89,7 +89,7 @@ impl SmallIndex {
         let mut bytes = [7u8; 20];
         let mut superblocks = [7u32; 2560];
         let mut blocks = [7u16; 2560];
-        let answer = index::build(
+        let answer = building::build(
             shape,
             text,
             &mut lengths,
@@ -149,7 +149,7 @@ impl SmallIndex {
         let bytes = self.bytes;
         let superblocks = self.superblocks;
         let blocks = self.blocks;
-        index::check(
+        checking::check(
             self.shape,
             front(&lengths, self.sizes.nodes),
             front_bytes(&bytes, self.sizes.bytes),

@@ -10,7 +10,7 @@ use Rattle.base.specs.Lists.{Below, countOf}
 use Rattle.base.proofs.Tests.{same-or-not, cond-same, cond-other}
 use Rattle.base.proofs.Lists.{all-map, all-take}
 use Rattle.base.proofs.Counts.{count-append, count-none}
-use Rattle.dense.specs.Code.{Closing, continuing, maxVocabulary, code, Word, closing, going}
+use Rattle.dense.specs.Code.{Closing, continuing, maxVocabulary, code, Word, closing, continued}
 use Rattle.tree.specs.Nodes.{child, nodeOf, closingByte, path, firstByte, reach, nodeBytes, position}
 use Rattle.tree.specs.Walks.{rankFrom}
 use Rattle.tree.proofs.Numbers.{rank-of-end}
@@ -71,7 +71,7 @@ module _ (s : ℕ) (within : Closing s) where
     where
       no : (w : List ℕ) → Word s w → rankFrom s (nodeOf s i) w ≡ j → firstByte w ≡ closingByte s i → ⊥
       no w (closing b g l) r q = n (sym r ∙ rank-of-end s i b q)
-      no w (going b g u) r q = omega arith
+      no w (continued b g u) r q = omega arith
 
   -- a rank stands in a text as often as its closing byte stands in its node
   pub frequency : (i : ℕ) (t : List ℕ) → i < maxVocabulary s → Below (maxVocabulary s) t → countOf i t ≡ countOf (closingByte s i) (nodeBytes s (nodeOf s i) t)

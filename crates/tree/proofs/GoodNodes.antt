@@ -11,13 +11,13 @@ use Rattle.base.specs.Lists.{rangeFrom, countOf}
 use Rattle.base.proofs.Tests.{below-or-not}
 use Rattle.base.proofs.Lists.{all-at}
 use Rattle.base.proofs.Counts.{count-take-less}
-use Rattle.dense.specs.Code.{Closing, continuing, maxVocabulary, closing, going}
+use Rattle.dense.specs.Code.{Closing, continuing, maxVocabulary, closing, continued}
 use Rattle.tree.specs.Nodes.{child, nodeCount, through}
 use Rattle.tree.specs.Walks.{node, byte, walk, Good}
-use Rattle.tree.proofs.Numbers.{nodes-most, rank-going}
+use Rattle.tree.proofs.Numbers.{nodes-most, rank-continued}
 use Rattle.tree.proofs.Through.{through-range}
 use Rattle.tree.proofs.Nodes.{Named}
-use Rattle.tree.proofs.Walks.{walk-closing, walk-going}
+use Rattle.tree.proofs.Walks.{walk-closing, walk-continued}
 
 -- ---- levels
 
@@ -75,7 +75,7 @@ module _ (s v : ℕ) (ns : List (List ℕ)) (good : Good s v ns) where
           → Named s (λ (r : ℕ). r < v) k (walk s ns (suc n) k i)
       go (inl l) ih =
           let m : Named s (λ (r : ℕ). r < v) (child s k b) w = ih (position-there k i b h refl l) in
-          rw (walk-going s ns n k i b refl l) (record { word = going b l (m .word); rank = rw (rank-going s k b w (m .word)) (m .rank) })
+          rw (walk-continued s ns n k i b refl l) (record { word = continued b l (m .word); rank = rw (rank-continued s k b w (m .word)) (m .rank) })
       go (inr g) ih =
           rw (walk-closing s ns n k i b refl g)
           (record {
@@ -88,5 +88,5 @@ module _ (s v : ℕ) (ns : List (List ℕ)) (good : Good s v ns) where
       → through e (map (walk s ns (suc n) k) (rangeFrom 0 (length (node ns k)))) ≡ map (walk s ns n (child s k e)) (rangeFrom 0 (length (node ns (child s k e))))
   walks-through n k e h l =
       through-range e (node ns k) (walk s ns (suc n) k) (walk s ns n (child s k e)) (λ i m. refl)
-      (λ i m q. ap tail (walk-going s ns n k i e q l)) (length (node ns k)) (omega arith)
+      (λ i m q. ap tail (walk-continued s ns n k i e q l)) (length (node ns k)) (omega arith)
       ∙ ap (λ (m : ℕ). map (walk s ns n (child s k e)) (rangeFrom 0 m)) (ap (countOf e) (take-length (node ns k)) ∙ good .counts k e h l)

@@ -7,11 +7,11 @@ use lib.ListN.{length, take, getD, length-map}
 use Rattle.base.specs.Lists.{All, countOf, nth}
 use Rattle.base.proofs.Lists.{all-map, getD-map}
 use Rattle.base.proofs.Counts.{Found, nth-found}
-use Rattle.dense.specs.Code.{Closing, continuing, maxVocabulary, code, Word, closing, going}
+use Rattle.dense.specs.Code.{Closing, continuing, maxVocabulary, code, Word, closing, continued}
 use Rattle.dense.proofs.Codewords.{code-word}
 use Rattle.tree.specs.Nodes.{child, path, firstByte, through, reaching, reach, nodeBytes}
 use Rattle.tree.specs.Walks.{rankFrom}
-use Rattle.tree.proofs.Numbers.{node-ind, rank-going, rank-from-code}
+use Rattle.tree.proofs.Numbers.{node-ind, rank-continued, rank-from-code}
 use Rattle.tree.proofs.Through.{all-through, length-through, through-at, reaching-path, reaching-append, reaching-nil, reaching-own}
 use Rattle.tree.proofs.Paths.{path-root, path-child}
 
@@ -99,7 +99,7 @@ module _ (s : ℕ) (within : Closing s) (R : ℕ → Type 0) (t : List ℕ) wher
     where
       go : (w : List ℕ) → firstByte w ≡ e → Word s w → R (rankFrom s k w) → Named s R (child s k e) (tail w)
       go w q (closing b g l) r = absurd (omega arith)
-      go w q (going b {bs} g u) r = record { word = u; rank = subst (λ (x : ℕ). R (rankFrom s (child s k x) bs)) q (subst R (rank-going s k b bs u) r) }
+      go w q (continued b {bs} g u) r = record { word = u; rank = subst (λ (x : ℕ). R (rankFrom s (child s k x) bs)) q (subst R (rank-continued s k b bs u) r) }
 
   -- all that reaches a node names there a rank of the text, if the text has codewords
   pub named-reach : All (λ (i : ℕ). (i < maxVocabulary s) × R i) t → (k : ℕ) → All (Named s R k) (reach s k t)

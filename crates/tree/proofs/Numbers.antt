@@ -7,7 +7,7 @@ use native.Mathlib.Nat.{mod-lt, div-add-mod, div-le-self, mul-div-le, mul-le-mul
 use native.Mathlib.Omega.{arith}
 use lib.ListN.{length}
 use Rattle.base.proofs.Tests.{below-or-not}
-use Rattle.dense.specs.Code.{Closing, continuing, maxVocabulary, code, rankOf, Word, closing, going}
+use Rattle.dense.specs.Code.{Closing, continuing, maxVocabulary, code, rankOf, Word, closing, continued}
 use Rattle.dense.proofs.Numbers.{digit-div, digit-mod}
 use Rattle.dense.proofs.Codewords.{code-word, code-short, rank-of-code}
 use Rattle.tree.specs.Nodes.{child, parent, digit, nodeCount, maxNodes, nodeOf, closingByte, rankIn}
@@ -92,18 +92,18 @@ module _ (s : ℕ) (within : Closing s) where
   pub end-closing : (w : List ℕ) → Word s w → (continuing s ≤ endByte w) × (endByte w < 256)
   unfolding getLastD
   end-closing w (closing b h l) = (h, l)
-  end-closing w (going b h (closing e g l)) = end-closing (e ∷ []) (closing e g l)
-  end-closing w (going b h (going e {bs} g u)) = end-closing (e ∷ bs) (going e g u)
+  end-closing w (continued b h (closing e g l)) = end-closing (e ∷ []) (closing e g l)
+  end-closing w (continued b h (continued e {bs} g u)) = end-closing (e ∷ bs) (continued e g u)
 
 -- the rank that ends in the node of rank i with its closing byte is i
 pub rank-of-end : (s i b : ℕ) → b ≡ closingByte s i → rankIn s (nodeOf s i) b ≡ i
 rank-of-end s i b q = omega (arith, div-add-mod i s)
 
 -- a codeword that goes on names what its tail names from the child on
-pub rank-going : (s k b : ℕ) (bs : List ℕ) → Word s bs → rankFrom s k (b ∷ bs) ≡ rankFrom s (child s k b) bs
+pub rank-continued : (s k b : ℕ) (bs : List ℕ) → Word s bs → rankFrom s k (b ∷ bs) ≡ rankFrom s (child s k b) bs
 unfolding getLastD
-rank-going s k b bs (closing e g l) = refl
-rank-going s k b bs (going e g u) = refl
+rank-continued s k b bs (closing e g l) = refl
+rank-continued s k b bs (continued e g u) = refl
 
 module _ (s : ℕ) (within : Closing s) where
   -- the node in which a codeword ends and its closing byte are those of its rank
@@ -119,16 +119,16 @@ module _ (s : ℕ) (within : Closing s) where
   pub rank-from-root : (w : List ℕ) → Word s w → length w ≤ 3 → rankFrom s 0 w ≡ rankOf s w
   unfolding getLastD
   rank-from-root w (closing b h l) n = omega arith
-  rank-from-root w (going a ha (closing b h l)) n = two-digits s (continuing s) a (b - continuing s)
+  rank-from-root w (continued a ha (closing b h l)) n = two-digits s (continuing s) a (b - continuing s)
     where
       two-digits : (s c a r : ℕ) → s * (c * 0 + 1 + a) + r ≡ s + (s * a + r)
       two-digits s c a r = omega arith
-  rank-from-root w (going a ha (going a′ ha′ (closing b h l))) n = three-digits s (continuing s) a a′ (b - continuing s)
+  rank-from-root w (continued a ha (continued a′ ha′ (closing b h l))) n = three-digits s (continuing s) a a′ (b - continuing s)
     where
       three-digits : (s c a b r : ℕ) → s * (c * (c * 0 + 1 + a) + 1 + b) + r ≡ s + s * c + (s * (c * a + b) + r)
       three-digits s c a b r = omega arith
-  rank-from-root w (going a ha (going a′ ha′ (going a″ ha″ (closing b h l)))) n = absurd (omega arith)
-  rank-from-root w (going a ha (going a′ ha′ (going a″ ha″ (going b h u)))) n = absurd (omega arith)
+  rank-from-root w (continued a ha (continued a′ ha′ (continued a″ ha″ (closing b h l)))) n = absurd (omega arith)
+  rank-from-root w (continued a ha (continued a′ ha′ (continued a″ ha″ (continued b h u)))) n = absurd (omega arith)
 
   -- the codeword of a rank names it
   pub rank-from-code : (i : ℕ) → i < maxVocabulary s → rankFrom s 0 (code s i) ≡ i

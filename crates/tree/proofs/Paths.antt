@@ -2,14 +2,13 @@
 use Prim.Native.Nat.{ℕ, zero, suc, _+_, _-_, _*_, _≤_, _<_}
 use mathlib.Core.Path.{_≡_, refl, sym, ap, ap₂, _∙_}
 use mathlib.Core.List.{List, [], _∷_, _++_, append-assoc, getLastD}
-use native.Mathlib.Nat.{div-eq-of-lt, div-le-self, mul-le-mul-right}
+use native.Mathlib.Nat.{div-le-self, mul-le-mul-right}
 use native.Mathlib.Omega.{arith}
-use Rattle.dense.specs.Code.{Closing, continuing, maxVocabulary, code, Word, closing, going}
-use Rattle.dense.proofs.Numbers.{div-below}
+use Rattle.dense.specs.Code.{Closing, continuing, maxVocabulary, code, Word, closing, continued}
 use Rattle.dense.proofs.Codewords.{code-word}
-use Rattle.tree.specs.Nodes.{child, parent, digit, maxNodes, nodeOf, closingByte, pathWithin, path}
+use Rattle.tree.specs.Nodes.{child, parent, digit, nodeOf, closingByte, pathWithin, path}
 use Rattle.tree.specs.Walks.{endNode, endByte}
-use Rattle.tree.proofs.Numbers.{child-suc, child-parent, child-digit, digit-below, child-of-parent, code-ends}
+use Rattle.tree.proofs.Numbers.{child-suc, child-parent, child-digit, code-ends}
 
 -- k bytes or more are enough for node k
 path-enough : (s d d′ k : ℕ) → k ≤ d → k ≤ d′ → pathWithin s d k ≡ pathWithin s d′ k
@@ -47,31 +46,11 @@ path-further s k b bs h = sym (append-assoc (path s k) (b ∷ []) bs) ∙ ap (λ
 pub path-end : (s k : ℕ) (w : List ℕ) → Word s w → path s k ++ w ≡ path s (endNode s k w) ++ (endByte w ∷ [])
 unfolding getLastD
 path-end s k w (closing b h l) = refl
-path-end s k w (going b h (closing e g l)) = path-further s k b (e ∷ []) h ∙ path-end s (child s k b) (e ∷ []) (closing e g l)
-path-end s k w (going b h (going e {bs} g u)) = path-further s k b (e ∷ bs) h ∙ path-end s (child s k b) (e ∷ bs) (going e g u)
+path-end s k w (continued b h (closing e g l)) = path-further s k b (e ∷ []) h ∙ path-end s (child s k b) (e ∷ []) (closing e g l)
+path-end s k w (continued b h (continued e {bs} g u)) = path-further s k b (e ∷ bs) h ∙ path-end s (child s k b) (e ∷ bs) (continued e g u)
 
 -- the codeword of rank i is the path to its node and its closing byte
 pub code-end : (s : ℕ) → Closing s → (i : ℕ) → i < maxVocabulary s → code s i ≡ path s (nodeOf s i) ++ (closingByte s i ∷ [])
 code-end s within i h =
     ap (λ (p : List ℕ). p ++ code s i) (sym (path-root s)) ∙ path-end s 0 (code s i) (code-word s within i h)
     ∙ ap₂ (λ (k b : ℕ). path s k ++ (b ∷ [])) (code-ends s within i h .0) (code-ends s within i h .1)
-
-module _ (s : ℕ) (within : Closing s) (k : ℕ) (h : 1 ≤ k) where
-  -- the path to a node other than the root is the path to its parent and its digit
-  path-parent : path s k ≡ path s (parent s k) ++ (digit s k ∷ [])
-  path-parent = rw (child-of-parent s within k h) at (path-child s (parent s k) (digit s k) (digit-below s within k))
-
-  -- to a child of the root its digit leads
-  pub path-one : parent s k ≡ 0 → path s k ≡ digit s k ∷ []
-  path-one p = path-parent ∙ ap (λ (x : List ℕ). x ++ (digit s k ∷ [])) (ap (path s) p ∙ path-root s)
-
-module _ (s : ℕ) (within : Closing s) (k : ℕ) (l : k < maxNodes s) (h : 1 ≤ parent s k) where
-  -- two levels above a node of the third is the root
-  pub two-up : parent s (parent s k) ≡ 0
-  two-up = div-eq-of-lt (omega (arith, div-below (continuing s) (1 + continuing s) (k - 1) (omega arith) (omega arith)))
-
-  -- to such a node the digit of its parent leads, and its own
-  pub path-two : path s k ≡ digit s (parent s k) ∷ digit s k ∷ []
-  path-two =
-      path-parent s within k (omega (arith, div-le-self (k - 1) (continuing s)))
-      ∙ ap (λ (x : List ℕ). x ++ (digit s k ∷ [])) (path-one s within (parent s k) h two-up)

@@ -10,12 +10,12 @@ use Rattle.base.proofs.Tests.{below-or-not}
 use Rattle.base.proofs.Lists.{all-at, all-imp, all-map, getD-map}
 use Rattle.base.proofs.Counts.{count-take-less}
 use Rattle.base.proofs.Ranges.{getD-map-range, length-map-range, map-range-is}
-use Rattle.dense.specs.Code.{Closing, continuing, maxVocabulary, code, rankOf, Word, closing, going}
+use Rattle.dense.specs.Code.{Closing, continuing, maxVocabulary, code, rankOf, Word, closing, continued}
 use Rattle.dense.proofs.Codewords.{code-word, code-short, rank-of-code}
 use Rattle.tree.specs.Nodes.{child, nodeCount, rankIn, firstByte, reach, nodeBytes, nodes}
 use Rattle.tree.specs.Walks.{node, walk, textOf, rankFrom, Good}
 use Rattle.tree.proofs.Numbers.{node-below, rank-least}
-use Rattle.tree.proofs.Walks.{walk-closing, walk-going}
+use Rattle.tree.proofs.Walks.{walk-closing, walk-continued}
 use Rattle.tree.proofs.Nodes.{reach-root, length-root, length-nodeBytes, byte-at, child-length, child-position, Named, named-reach}
 
 module _ (s : ℕ) (within : Closing s) (v : ℕ) (fits : v ≤ maxVocabulary s) (t : List ℕ) (below : Below v t) where
@@ -51,14 +51,14 @@ module _ (s : ℕ) (within : Closing s) (v : ℕ) (fits : v ≤ maxVocabulary s)
   -- the walk meets, from position i of node k on, the codeword that stands there
   pub walk-reads : (n k i : ℕ) (w : List ℕ) → Word s w → length w ≤ n → i < length (reach s k t) → getD (reach s k t) i [] ≡ w → walk s (nodes s v t) n k i ≡ w
   walk-reads zero k i w (closing b h l) m g q = absurd (omega arith)
-  walk-reads zero k i w (going b h u) m g q = absurd (omega arith)
+  walk-reads zero k i w (continued b h u) m g q = absurd (omega arith)
   walk-reads (suc n) k i w (closing b h l) m g q =
       walk-closing s (nodes s v t) n k i b (ap (λ (x : List ℕ). getD x i 0) (nodes-at k) ∙ byte-at s k i t g ∙ ap firstByte q) h
-  walk-reads (suc n) k i w (going b {bs} h u) m g q =
+  walk-reads (suc n) k i w (continued b {bs} h u) m g q =
       let c : getD (nodeBytes s k t) i 0 ≡ b = byte-at s k i t g ∙ ap firstByte q in
       let len : length (nodeBytes s k t) ≡ length (reach s k t) = length-nodeBytes s k t in
       let less : countOf b (take i (nodeBytes s k t)) < countOf b (nodeBytes s k t) = count-take-less b (nodeBytes s k t) i (omega arith) c in
-      walk-going s (nodes s v t) n k i b (ap (λ (x : List ℕ). getD x i 0) (nodes-at k) ∙ c) h
+      walk-continued s (nodes s v t) n k i b (ap (λ (x : List ℕ). getD x i 0) (nodes-at k) ∙ c) h
       ∙ ap (λ (x : List ℕ). b ∷ x)
       (ap (λ (x : List ℕ). walk s (nodes s v t) n (child s k b) (countOf b (take i x))) (nodes-at k)
       ∙ walk-reads n (child s k b) (countOf b (take i (nodeBytes s k t))) bs u (omega arith)
@@ -92,11 +92,11 @@ module _ (s : ℕ) (within : Closing s) (v : ℕ) (fits : v ≤ maxVocabulary s)
     where
       first-byte : (w : List ℕ) → Word s w → firstByte w < 256
       first-byte w (closing b h l) = l
-      first-byte w (going b h u) = omega arith
+      first-byte w (continued b h u) = omega arith
 
       last-byte : (k : ℕ) (w : List ℕ) → Word s w → rankFrom s k w < v → continuing s ≤ firstByte w → rankIn s k (firstByte w) < v
       last-byte k w (closing b h l) r c = r
-      last-byte k w (going b h u) r c = absurd (omega arith)
+      last-byte k w (continued b h u) r c = absurd (omega arith)
 
 -- two texts with one vocabulary never share nodes
 pub nodes-injective : (s : ℕ) → Closing s → (v : ℕ) → v ≤ maxVocabulary s → (t u : List ℕ) → Below v t → Below v u → nodes s v t ≡ nodes s v u → t ≡ u

@@ -12,12 +12,12 @@ use Rattle.base.proofs.Tests.{same-or-not, cond-same, cond-other}
 use Rattle.base.proofs.Lists.{map-map}
 use Rattle.base.proofs.Ranges.{map-range-same}
 use Rattle.base.proofs.Sums.{total-range-add, total-range-zero, total-range-one}
-use Rattle.dense.specs.Code.{Closing, continuing, maxVocabulary, code, Word, closing, going}
+use Rattle.dense.specs.Code.{Closing, continuing, maxVocabulary, code, Word, closing, continued}
 use Rattle.dense.specs.Laws.{codeLength}
 use Rattle.dense.proofs.Codewords.{code-word, code-length}
 use Rattle.tree.specs.Nodes.{child, nodeCount, firstByte, through, reach, nodeBytes, nodes}
 use Rattle.tree.specs.Walks.{rankFrom}
-use Rattle.tree.proofs.Numbers.{child-same, child-above, node-ind, node-below, rank-least, rank-going, rank-from-code}
+use Rattle.tree.proofs.Numbers.{child-same, child-above, node-ind, node-below, rank-least, rank-continued, rank-from-code}
 use Rattle.tree.proofs.Through.{through-hit, through-miss, through-append}
 use Rattle.tree.proofs.Nodes.{reach-root, reach-child, nodeBytes-append, nodeBytes-nil}
 
@@ -53,7 +53,7 @@ module _ (s : ℕ) (within : Closing s) where
       go : (t : Bool) → through e (cond t ((b ∷ []) ∷ []) [] ++ []) ≡ []
       go true = through-miss e (b ∷ []) [] (λ q. omega arith)
       go false = refl
-  arrives-child k e j w (going b {bs} h u) he =
+  arrives-child k e j w (continued b {bs} h u) he =
       ap (λ (x : List (List ℕ)). cond (eqb j (child s k e)) ((b ∷ bs) ∷ []) [] ++ x)
       (arrives-child k e (child s j b) bs u he
       ∙ ap (λ (x : List (List ℕ)). x ++ through e (arrives s k (child s j b) bs)) (go (same-or-not j k) (same-or-not b e))
@@ -72,7 +72,7 @@ module _ (s : ℕ) (within : Closing s) where
 
   arrives-root : (w : List ℕ) → Word s w → w ∷ [] ≡ arrives s 0 0 w
   arrives-root w (closing b h l) = refl
-  arrives-root w (going b {bs} h u) = ap (λ (x : List (List ℕ)). (b ∷ bs) ∷ x) (sym (arrives-above 0 (child s 0 b) bs (omega arith)))
+  arrives-root w (continued b {bs} h u) = ap (λ (x : List (List ℕ)). (b ∷ bs) ∷ x) (sym (arrives-above 0 (child s 0 b) bs (omega arith)))
 
   -- what reaches a node of the text of one word is what is left of its codeword there
   reach-arrives : (i : ℕ) → i < maxVocabulary s → (k : ℕ) → reach s k (i ∷ []) ≡ arrives s k 0 (code s i)
@@ -122,7 +122,7 @@ module _ (s : ℕ) (within : Closing s) where
 
       go : (j : ℕ) (w : List ℕ) → Word s w → rankFrom s j w < v → total (map (λ (k : ℕ). length (leaves s k j w)) (rangeFrom 0 n)) ≡ length w
       go j w (closing b g l) h = step j b [] h ∙ ap suc (total-range-zero n)
-      go j w (going b {bs} g u) h = step j b bs h ∙ ap suc (go (child s j b) bs u (rw (rank-going s j b bs u) at h))
+      go j w (continued b {bs} g u) h = step j b bs h ∙ ap suc (go (child s j b) bs u (rw (rank-continued s j b bs u) at h))
 
   -- the nodes of a text have together as many bytes as its codewords
   pub total-nodes : (v : ℕ) (t : List ℕ) → v ≤ maxVocabulary s → Below v t → total (map length (nodes s v t)) ≡ total (map (codeLength s) t)

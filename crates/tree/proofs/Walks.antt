@@ -15,9 +15,9 @@ use Rattle.base.proofs.Tests.{cond-most, cond-above}
 pub walk-closing : (s : ℕ) (ns : List (List ℕ)) (n k i b : ℕ) → byte ns k i ≡ b → continuing s ≤ b → walk s ns (suc n) k i ≡ b ∷ []
 walk-closing s ns n k i b q h = rw q (ap (λ (w : List ℕ). b ∷ w) (cond-most [] _ (continuing s) b h))
 
-pub walk-going : (s : ℕ) (ns : List (List ℕ)) (n k i b : ℕ) → byte ns k i ≡ b → b < continuing s
+pub walk-continued : (s : ℕ) (ns : List (List ℕ)) (n k i b : ℕ) → byte ns k i ≡ b → b < continuing s
     → walk s ns (suc n) k i ≡ b ∷ walk s ns n (child s k b) (countOf b (take i (node ns k)))
-walk-going s ns n k i b q h = rw q (ap (λ (w : List ℕ). b ∷ w) (cond-above [] _ (continuing s) b h))
+walk-continued s ns n k i b q h = rw q (ap (λ (w : List ℕ). b ∷ w) (cond-above [] _ (continuing s) b h))
 
 -- a walk meets at most one byte a level
 pub walk-length : (s : ℕ) (ns : List (List ℕ)) (n k i : ℕ) → length (walk s ns n k i) ≤ n
@@ -38,7 +38,7 @@ pub word-closing : (s : ℕ) (ns : List (List ℕ)) (n k i b : ℕ) → byte ns 
 unfolding getLastD
 word-closing s ns n k i b q h = ap (rankFrom s k) (walk-closing s ns n k i b q h)
 
-pub word-going : (s : ℕ) (ns : List (List ℕ)) (n k i b : ℕ) → byte ns k i ≡ b → b < continuing s
+pub word-continued : (s : ℕ) (ns : List (List ℕ)) (n k i b : ℕ) → byte ns k i ≡ b → b < continuing s
     → wordAt s ns (suc (suc n)) k i ≡ wordAt s ns (suc n) (child s k b) (countOf b (take i (node ns k)))
 unfolding getLastD
-word-going s ns n k i b q h = ap (rankFrom s k) (walk-going s ns (suc n) k i b q h)
+word-continued s ns n k i b q h = ap (rankFrom s k) (walk-continued s ns (suc n) k i b q h)

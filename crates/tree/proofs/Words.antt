@@ -8,11 +8,11 @@ use Rattle.base.specs.Lists.{Below, countOf, nth}
 use Rattle.base.proofs.Lists.{below-weaken}
 use Rattle.base.proofs.Counts.{Found, nth-here, nth-found}
 use Rattle.base.proofs.Ranges.{getD-map-range, length-map-range}
-use Rattle.dense.specs.Code.{Closing, maxVocabulary, code, Word, closing, going}
+use Rattle.dense.specs.Code.{Closing, maxVocabulary, code, Word, closing, continued}
 use Rattle.dense.proofs.Codewords.{code-word}
 use Rattle.tree.specs.Nodes.{child, nodeOf, closingByte, path, nodeBytes, position}
 use Rattle.tree.specs.Walks.{node, textOf, rankFrom, wordAt, countBelow, nthFrom, Good}
-use Rattle.tree.proofs.Numbers.{rank-going, word-end, rank-from-code}
+use Rattle.tree.proofs.Numbers.{rank-continued, word-end, rank-from-code}
 use Rattle.tree.proofs.Paths.{path-root, path-further}
 use Rattle.tree.proofs.Frequency.{position-root, position-child, byte-of-place, position-inside, occurrences-below}
 use Rattle.tree.proofs.Reading.{nodes-at}
@@ -31,10 +31,10 @@ module _ (s : ℕ) (within : Closing s) (t : List ℕ) (below : Below (maxVocabu
   count-from : (k p i : ℕ) (w : List ℕ) → i < maxVocabulary s → Word s w → rankFrom s k w ≡ i → countBelow s ns k (position s k p t) w ≡ countOf i (take p t)
   count-from k p i w h (closing b g l) q =
       ap (λ (x : List ℕ). countOf b (take (position s k p t) x)) (at k) ∙ closing-count k p i b h (closing b g l) q
-  count-from k p i w h (going b {bs} g u) q =
+  count-from k p i w h (continued b {bs} g u) q =
       ap (λ (x : List ℕ). countBelow s ns (child s k b) (countOf b (take (position s k p t) x)) bs) (at k)
       ∙ ap (λ (x : ℕ). countBelow s ns (child s k b) x bs) (sym (position-child s k b p t g))
-      ∙ count-from (child s k b) p i bs h u (sym (rank-going s k b bs u) ∙ q)
+      ∙ count-from (child s k b) p i bs h u (sym (rank-continued s k b bs u) ∙ q)
 
   -- how often rank i stands below place p
   count-below : (i p : ℕ) → i < maxVocabulary s → p ≤ length t → countBelow s ns 0 p (code s i) ≡ countOf i (take p t)
@@ -49,9 +49,9 @@ module _ (s : ℕ) (within : Closing s) (t : List ℕ) (below : Below (maxVocabu
       ap (nth b (countOf i (take p t))) (at k)
       ∙ nth-here b (countOf i (take p t)) (position s k p t) (nodeBytes s k t)
       (position-inside s k p b [] t m (ap (code s) o ∙ r)) (byte-of-place s k p b [] t m (ap (code s) o ∙ r)) (closing-count k p i b h (closing b g l) q)
-  nth-from k p i w h (going b {bs} g u) q m o r =
+  nth-from k p i w h (continued b {bs} g u) q m o r =
       ap₂ (nth b)
-      (nth-from (child s k b) p i bs h u (sym (rank-going s k b bs u) ∙ q) m o (r ∙ path-further s k b bs g) ∙ position-child s k b p t g)
+      (nth-from (child s k b) p i bs h u (sym (rank-continued s k b bs u) ∙ q) m o (r ∙ path-further s k b bs g) ∙ position-child s k b p t g)
       (at k)
       ∙ nth-here b (countOf b (take (position s k p t) (nodeBytes s k t))) (position s k p t) (nodeBytes s k t)
       (position-inside s k p b bs t m (ap (code s) o ∙ r)) (byte-of-place s k p b bs t m (ap (code s) o ∙ r)) refl

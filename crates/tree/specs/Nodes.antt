@@ -1,13 +1,11 @@
 -- The nodes of the byte tree of paper 01, over the number s of closing byte values; the other c = 256 - s say that another byte follows.
-use Prim.Native.Nat.{ℕ, zero, suc, _+_, _*_, _-_, _/_, _%_, _≤_}
-use mathlib.Core.Path.{_≡_}
+use Prim.Native.Nat.{ℕ, zero, suc, _+_, _*_, _-_, _/_, _%_}
 use mathlib.Core.List.{List, [], _∷_, _++_, map, tail}
 use lib.Dec.{eqb}
 use lib.ListN.{length, take, getD}
 use Rattle.base.specs.Lists.{filterBy, rangeFrom}
 use Rattle.dense.specs.Code.{continuing, code}
 use Rattle.tree.specs.declared.Place.{Place}
-use Rattle.tree.specs.declared.Path.{Path}
 use Rattle.tree.specs.declared.Position.{Position}
 
 -- ---- numbers
@@ -55,11 +53,6 @@ pathWithin s (suc most) (suc k) = pathWithin s most (parent s (suc k)) ++ (digit
 -- the bytes that lead from the root to node k: at most k, as each parent has a smaller number
 unfoldable pub path : ℕ → ℕ → List ℕ
 path s k = pathWithin s k k
-
--- a path as it is answered: the digits up to the length, at most two, are the bytes that lead to node k
-pub record PathOf (s k : ℕ) (r : Path) : Type 0 where
-  pub short : r .length ≤ 2
-  pub bytes : take (r .length) (r .digits) ≡ path s k
 
 -- ---- what reaches a node
 

@@ -3,19 +3,13 @@
 ghost use mathlib.Core.Path.{_≡_};
 ghost use Prim.Native.Nat.{_≤_, _<_};
 ghost use Rattle.dense.specs.Code.{Closing, maxVocabulary};
-ghost use Rattle.tree.specs.Nodes.{child, parent, digit, nodeCount, maxNodes, nodeOf, closingByte, PathOf, rootPosition, rootPlace};
+ghost use Rattle.tree.specs.Nodes.{child, parent, digit, nodeCount, maxNodes, nodeOf, closingByte, rootPosition, rootPlace};
 
 // A place counts words of the text.
 pub struct Place(pub usize);
 
 // A position counts bytes inside one node.
 pub struct Position(pub usize);
-
-// The bytes that lead from the root to a node: as many of the digits as the length says.
-pub struct Path {
-    pub digits: [u8; 2],
-    pub length: usize,
-}
 
 // The position in the root of a place.
 pub fn root_position(place: Place) -> Position
@@ -77,30 +71,4 @@ pub fn closing_byte(s: usize, rank: usize) -> u8
     ensures { λ r. ⌜ r ≡ closingByte s rank ⌝ }
 {
     (256 - s + rank % s) as u8
-}
-
-// The path to a node of the first three levels, in which all nodes of a vocabulary are.
-pub fn path_to(s: usize, node: usize) -> Path
-    requires { ⌜ Closing s × (node < maxNodes s) ⌝ }
-    ensures { λ r. ⌜ PathOf s node r ⌝ }
-{
-    if node == 0 {
-        return Path {
-            digits: [0, 0],
-            length: 0,
-        };
-    }
-    let up = parent(s, node);
-    let last = digit(s, node);
-    if up == 0 {
-        return Path {
-            digits: [last, 0],
-            length: 1,
-        };
-    }
-    let first = digit(s, up);
-    Path {
-        digits: [first, last],
-        length: 2,
-    }
 }

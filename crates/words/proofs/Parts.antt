@@ -23,8 +23,7 @@ use Rattle.index.specs.declared.Shape.{Shape}
 use Rattle.index.specs.Arrays.{passes, Arrays, nodesIn}
 use Rattle.index.specs.Entries.{indexCases, checkAnswer}
 use Rattle.index.proofs.Limits.{tested-limits}
-use Rattle.index.proofs.Passing.{Tested, passes-tests}
-use Rattle.index.proofs.Verdicts.{passes-number, passes-bytes}
+use Rattle.index.proofs.Passing.{Tested, passes-tests, passes-number, passes-bytes}
 use Rattle.words.specs.Ready.{Checked, nodeFrom, Counted, Ready}
 
 -- node k of the arrays: its bytes; empty past the last node

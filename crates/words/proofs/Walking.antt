@@ -7,7 +7,7 @@ use Rattle.base.specs.Lists.{countOf}
 use Rattle.dense.specs.Code.{continuing}
 use Rattle.tree.specs.Nodes.{child, nodeCount, rankIn}
 use Rattle.tree.specs.Walks.{wordAt}
-use Rattle.tree.proofs.Walks.{word-closing, word-going}
+use Rattle.tree.proofs.Walks.{word-closing, word-continued}
 use Rattle.tree.proofs.GoodNodes.{leftmost, leftmost-child, three-levels, node-there, position-there}
 use Rattle.tree.proofs.Words.{word-of-text}
 use Rattle.index.specs.declared.Shape.{Shape}
@@ -61,5 +61,5 @@ module _ {s : ℕ} {shape : Shape} {a : Arrays} (checked : Checked s shape a) (p
           levels = suc n;
           ends = leftmost-child s (suc n) k b (nodeCount s (shape .vocabulary)) e;
           there = on;
-          reads = w ∙ word-going s (nodesIn a) n k i b q h;
+          reads = w ∙ word-continued s (nodesIn a) n k i b q h;
         }

@@ -8,7 +8,7 @@ use Rattle.dense.specs.Code.{Closing}
 use Rattle.directory.specs.Counters.{Sizes, Directory}
 use Rattle.index.specs.declared.Shape.{Shape}
 use Rattle.index.specs.Arrays.{Arrays, arrays, textIn, passes}
-use Rattle.index.specs.Starts.{NodeStarts}
+use Rattle.starts.specs.Starts.{NodeStarts}
 use Rattle.index.specs.Exact.{WithinLimits}
 
 -- the arrays have passed the check

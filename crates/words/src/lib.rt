@@ -3,7 +3,7 @@
 // and asks the directory at most twice in each.
 //
 // No function of this crate is an entry: the public ones require that the four slices have passed
-// the check and that `starts` is a table that `index::node_starts` has filled, the others what their
+// the check and that `starts` is a table that `starts::node_starts` has filled, the others what their
 // callers have shown. What they answer is defined over the text of the slices.
 ghost use mathlib.Core.Path.{_≡_};
 ghost use Prim.Native.Nat.{_≤_, _<_};

@@ -63,7 +63,7 @@ use Rattle.dense.specs.Code.{Closing}
 use Rattle.index.specs.declared.Shape.{Shape}
 use Rattle.index.specs.Arrays.{Arrays, arrays, textIn}
 use Rattle.index.specs.Entries.{checkAnswer}
-use Rattle.index.specs.Starts.{maxStarts, NodeStarts}
+use Rattle.starts.specs.Starts.{maxStarts, NodeStarts}
 use Rattle.words.specs.Ready.{Ready}
 use Rattle.words.proofs.Parts.{accepted-checked}
 use Rattle.questions.specs.declared.Question.{Question}

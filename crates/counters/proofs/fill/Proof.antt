@@ -7,7 +7,7 @@ use borrow.Author.Needs.{needs}
 use lib.ListN.{length}
 use Rattle.base.specs.Answers.{front}
 use Rattle.directory.specs.Counters.{superblockRow, blockRow, superblockRows, blockRows}
-use Rattle.directory.specs.Tables.{laid}
+use Rattle.directory.specs.Tables.{firstRows}
 use Rattle.directory.proofs.Rows.{superblock-row-length, block-row-length, superblock-some, superblock-rows-length, block-rows-length}
 use Rattle.counters.specs.Tallies.{endOf}
 use Rattle.counters.proofs.Tables.{rows-length, rows-put, rows-over, begins-none, begins-front, front-begins}
@@ -17,8 +17,8 @@ use Rattle.counters.proofs.fill.Tie as tie
 
 abbrev Inv-loop : tie.InvT-loop
 Inv-loop bytes superblocks₀ blocks₀ block per totals₀ end superblock₀ superblocks blocks totals superblock =
-    Totalled block per bytes end superblock totals × (superblocks ≡ front (laid (superblockRow block per bytes) superblock) superblocks₀)
-    × (blocks ≡ front (laid (blockRow block per bytes) (rowsTo block per bytes superblock)) blocks₀)
+    Totalled block per bytes end superblock totals × (superblocks ≡ front (firstRows (superblockRow block per bytes) superblock) superblocks₀)
+    × (blocks ≡ front (firstRows (blockRow block per bytes) (rowsTo block per bytes superblock)) blocks₀)
 
 abbrev μ-loop : tie.MeasureT-loop
 μ-loop bytes superblocks₀ blocks₀ block per totals₀ end superblock₀ superblocks blocks totals superblock = end - superblock
@@ -90,9 +90,9 @@ loop-again c =
       totalled-next (s .pre .0) (l .inv .0) (i .loop-test .taken) _ (c .before .before .fill-superblock .ensures .1),
       c .before .before .before .before .before .before .before .put-superblock .ensures
           ∙ rows-put (superblockRow (a .block) (a .per) (a .bytes .now)) (superblock-row-length (a .block) (a .per) (a .bytes .now)) (l .superblock) (a .superblocks .now) (l .superblocks) (l .totals) (l .inv .1) (l .inv .0 .total),
-      c .before .before .fill-superblock .ensures .0 ∙ ap (front (laid g end)) (l .inv .2)
+      c .before .before .fill-superblock .ensures .0 ∙ ap (front (firstRows g end)) (l .inv .2)
           ∙ rows-over g (block-row-length (a .block) (a .per) (a .bytes .now)) (rowsTo (a .block) (a .per) (a .bytes .now) (l .superblock)) end (a .blocks .now) (omega arith)
-          ∙ ap (λ (n : ℕ). front (laid g n) (a .blocks .now)) (rows-next (s .pre .0) (l .inv .0)),
+          ∙ ap (λ (n : ℕ). front (firstRows g n) (a .blocks .now)) (rows-next (s .pre .0) (l .inv .0)),
     )
 
 same-length : tie.Need-same-length Inv-loop μ-loop
@@ -108,8 +108,8 @@ returns c =
     let a = s .args in
     let l = c .before .loop in
     let e : l .superblock ≡ suc (length (a .bytes .now) / (a .block * a .per)) = omega (arith, l .inv .0 .most, l .inv .0 .ends, c .loop-test .left) in (
-      l .inv .1 ∙ ap (λ (n : ℕ). front (laid (superblockRow (a .block) (a .per) (a .bytes .now)) n) (a .superblocks .now)) e,
-      l .inv .2 ∙ ap (λ (n : ℕ). front (laid (blockRow (a .block) (a .per) (a .bytes .now)) n) (a .blocks .now)) (rows-all (s .pre .0) (l .inv .0) (c .loop-test .left)),
+      l .inv .1 ∙ ap (λ (n : ℕ). front (firstRows (superblockRow (a .block) (a .per) (a .bytes .now)) n) (a .superblocks .now)) e,
+      l .inv .2 ∙ ap (λ (n : ℕ). front (firstRows (blockRow (a .block) (a .per) (a .bytes .now)) n) (a .blocks .now)) (rows-all (s .pre .0) (l .inv .0) (c .loop-test .left)),
     )
 
 pub fill-spec : {M : Type 1} → statement M

@@ -6,7 +6,7 @@ use borrow.Author.Needs.{needs}
 use lib.ListN.{length}
 use Rattle.base.specs.Answers.{front}
 use Rattle.directory.specs.Counters.{blockRow}
-use Rattle.directory.specs.Tables.{laid}
+use Rattle.directory.specs.Tables.{firstRows}
 use Rattle.directory.proofs.Rows.{block-row-length}
 use Rattle.counters.specs.Tallies.{counters}
 use Rattle.counters.proofs.Tables.{rows-length, rows-put, front-begins}
@@ -16,7 +16,7 @@ use Rattle.counters.proofs.fill_superblock.Tie as tie
 
 abbrev Inv-loop : tie.InvT-loop
 Inv-loop bytes blocks₀ totals block per superblock lanes₀ row₀ end blocks lanes row =
-    Tallied block per bytes superblock end row lanes × (blocks ≡ front (laid (blockRow block per bytes) row) blocks₀)
+    Tallied block per bytes superblock end row lanes × (blocks ≡ front (firstRows (blockRow block per bytes) row) blocks₀)
 
 abbrev μ-loop : tie.MeasureT-loop
 μ-loop bytes blocks₀ totals block per superblock lanes₀ row₀ end blocks lanes row = end - row
@@ -30,14 +30,10 @@ long c =
     ap length (c .loop .inv .1) ∙ rows-length (blockRow (a .block) (a .per) (a .bytes .now)) (block-row-length (a .block) (a .per) (a .bytes .now)) (c .loop .row) (a .blocks .now) (omega (arith, t .to, t .ends, s .pre .2))
 
 mul-row : tie.Need-mul-row Inv-loop μ-loop
-mul-row c =
-    let s = c .before .before in
-    omega (arith, end-asks (s .pre .0) (s .pre .1) .2)
+mul-row c = omega (arith, end-asks (c .before .before .pre .0) (c .before .before .pre .1) .2)
 
 rows-end-requires : tie.Need-rows-end-requires Inv-loop μ-loop
-rows-end-requires c κs =
-    let s = c .before .before in
-    end-asks (s .pre .0) (s .pre .1)
+rows-end-requires c κs = end-asks (c .before .before .pre .0) (c .before .before .pre .1)
 
 loop-holds : tie.Need-loop-holds Inv-loop μ-loop
 loop-holds c =
@@ -92,7 +88,7 @@ returns c =
     let s = e .before .before .before .before .before in
     let a = s .args in
     let l = e .before .loop in (
-      l .inv .1 ∙ ap (λ (n : ℕ). front (laid (blockRow (a .block) (a .per) (a .bytes .now)) n) (a .blocks .now)) (ended (s .pre .0) (s .pre .1) (l .inv .0) (e .loop-test .left)),
+      l .inv .1 ∙ ap (λ (n : ℕ). front (firstRows (blockRow (a .block) (a .per) (a .bytes .now)) n) (a .blocks .now)) (ended (s .pre .0) (s .pre .1) (l .inv .0) (e .loop-test .left)),
       c .add .ensures ∙ total-next (s .pre .0) (s .pre .1) (l .inv .0) (e .loop-test .left),
     )
 

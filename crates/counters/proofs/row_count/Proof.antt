@@ -9,7 +9,7 @@ div-result : tie.Need-div-result
 div-result c = search needs
 
 add-result : tie.Need-add-result
-add-result c = omega (arith, div-le-self (c .args .length) (c .args .span))
+add-result c = omega (arith, div-le-self (c .args .size) (c .args .span))
 
 returns : tie.Need-returns
 returns c = search needs

@@ -22,14 +22,10 @@ abbrev μ-loop : tie.MeasureT-loop
 μ-loop bytes blocks totals block per superblock lanes₀ row₀ end lanes row = end - row
 
 mul-row : tie.Need-mul-row Inv-loop μ-loop
-mul-row c =
-    let s = c .before .before in
-    omega (arith, end-asks (s .pre .0) (s .pre .1) .2)
+mul-row c = omega (arith, end-asks (c .before .before .pre .0) (c .before .before .pre .1) .2)
 
 rows-end-requires : tie.Need-rows-end-requires Inv-loop μ-loop
-rows-end-requires c κs =
-    let s = c .before .before in
-    end-asks (s .pre .0) (s .pre .1)
+rows-end-requires c κs = end-asks (c .before .before .pre .0) (c .before .before .pre .1)
 
 loop-holds : tie.Need-loop-holds Inv-loop μ-loop
 loop-holds c =

@@ -46,8 +46,8 @@ returns-3 c = let a = c .before .before .before .before .before .before .before 
     (read-broken (a .s) (a .stream .now) (a .text .now) (rw (← count) (c .before .before .before .before .if1 .left)) (rw (← count) (c .before .before .before .if2 .left)) (sym (c .before .before .is-broken .ensures) ∙ c .before .if3 .taken))
     (c .refused3 .result) (c .refused3 .ensures)
 
-read-text-requires : tie.Need-read-text-requires
-read-text-requires c κs = let r = readable (c .before) in
+read-codewords-requires : tie.Need-read-codewords-requires
+read-codewords-requires c κs = let r = readable (c .before) in
     (c .before .before .before .before .before .before .before .before .pre, r .whole, r .room)
 
 accepted-requires : tie.Need-accepted-requires
@@ -58,8 +58,8 @@ same-length c = search needs
 
 returns-4 : tie.Need-returns-4
 returns-4 c = let a = c .before .before .before .before .before .before .before .before .before .before .before .before .args in
-    read-accepted (a .s) (a .stream .now) (a .text .now) (readable (c .before .before .before .before .before)) (c .accepted .result) (c .before .before .before .read-text .last .1 .1 .0)
-    (c .accepted .ensures ∙ ap accepted (c .before .before .before .before .before .before .before .before .before .count-closings .ensures)) (c .before .before .before .read-text .ensures)
+    read-accepted (a .s) (a .stream .now) (a .text .now) (readable (c .before .before .before .before .before)) (c .accepted .result) (c .before .before .before .read-codewords .last .1 .1 .0)
+    (c .accepted .ensures ∙ ap accepted (c .before .before .before .before .before .before .before .before .before .count-closings .ensures)) (c .before .before .before .read-codewords .ensures)
 
 pub read-stream-of-spec : {M : Type 1} → statement M
 read-stream-of-spec =
@@ -73,7 +73,7 @@ read-stream-of-spec =
     is-broken-requires
     refused-requires-3
     returns-3
-    read-text-requires
+    read-codewords-requires
     accepted-requires
     same-length
     returns-4)
