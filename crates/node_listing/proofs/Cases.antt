@@ -1,5 +1,5 @@
 -- Which listing a stream has, by what the call that reads it answers. Assumes nothing.
-use Prim.Native.Nat.{ℕ, _≤_, _<_}
+use Prim.Native.Nat.{ℕ, suc, _≤_, _<_}
 use mathlib.Core.Path.{_≡_, refl, sym, ap, ap₂, _∙_}
 use mathlib.Core.Bool.{Bool, true, false}
 use mathlib.Core.Logic.{_⊎_, inl, inr}
@@ -8,13 +8,16 @@ use native.Mathlib.Omega.{arith}
 use borrow.Author.Tests.{lt-ltb, le-ltb}
 use lib.Dec.{ltb}
 use lib.ListN.{length, take}
+use lib.Seq.{take-all, length-take-le}
 use Rattle.base.specs.declared.Answer.{Answer}
 use Rattle.base.specs.Lists.{Below}
 use Rattle.base.specs.Texts.{maxWords}
 use Rattle.base.proofs.Tests.{below-or-not, or-false, or-left, or-right}
 use Rattle.dense.specs.Streams.{isBroken, streamText, closings, readStreamAnswer, readStreamExit}
 use Rattle.dense.proofs.Calls.{Readable, accepted-readable, readable-accepted, readable-read, read-words, read-short, read-broken}
-use Rattle.node_listing.specs.Listing.{refusalLine, maxStream, maxStreamWords, textListing, isLong, listing}
+use Rattle.node_lines.specs.Lines.{refusalLine}
+use Rattle.node_listing.specs.Listing.{maxStream, maxStreamWords, textListing, isLong, listing}
+use Rattle.node_listing.specs.Calls.{ListingOfFront}
 use Rattle.node_listing.proofs.Refusals.{is-long, is-broken, is-whole}
 use Rattle.node_listing.proofs.Lengths.{words-counted}
 
@@ -96,3 +99,13 @@ module _ (bytes : List ℕ) where
 
       pub text-read : (y : List ℕ) → y ≡ readStreamExit 128 bytes z → take (r .value) y ≡ streamText 128 bytes
       text-read y e = ap₂ take (words-read .0) e ∙ readable-read 128 bytes z readable
+
+-- a stream of more than 8,193 bytes and its first 8,193 are both too long
+pub listing-of-front : ListingOfFront
+listing-of-front stream = go (below-or-not (suc maxStream) (length stream))
+  where
+    go : (suc maxStream < length stream) ⊎ (length stream ≤ suc maxStream) → listing (take (suc maxStream) stream) ≡ listing stream
+    go (inl h) =
+        listing-long (take (suc maxStream) stream) (omega (arith, length-take-le (suc maxStream) stream (omega arith)))
+        ∙ sym (listing-long stream (omega arith))
+    go (inr h) = ap listing (take-all (suc maxStream) stream h)

@@ -1,4 +1,4 @@
--- How long the lines of a listing are, and the whole of it at most. Assumes nothing.
+-- How long a listing is at most. Assumes nothing.
 use Prim.Native.Nat.{ℕ, suc, _+_, _*_, _-_, _≤_, _<_}
 use mathlib.Core.Path.{_≡_, refl, sym, ap, _∙_}
 use mathlib.Core.Bool.{Bool, true, false}
@@ -16,6 +16,7 @@ use Rattle.base.proofs.Sums.{total-append}
 use Rattle.formatting.specs.Characters.{characters, labelled, decimal, bytesText}
 use Rattle.formatting.proofs.Texts.{length-bytes-text}
 use Rattle.formatting.proofs.Decimals.{decimal-length, labelled-length}
+use Rattle.node_lines.proofs.Lengths.{headLength, refusal-length, counts-length, lines-length, heads-most}
 use Rattle.dense.specs.Code.{Closing}
 use Rattle.dense.specs.Laws.{codeLength}
 use Rattle.dense.specs.Streams.{stream, isBroken, streamText, closings}
@@ -24,73 +25,11 @@ use Rattle.tree.specs.Nodes.{nodeCount, nodeBytes, nodes}
 use Rattle.index.specs.Arrays.{indexOf, lengthsOf}
 use Rattle.index.specs.Exact.{WithinLimits, IsText}
 use Rattle.index.proofs.Texts.{total-lengths, length-bytes}
-use Rattle.node_listing.specs.Listing.{vocabularyOf, shapeOf, lineEnd, refusalLine, countsLine, nodeLine, nodeLines, indexListing, maxStream, maxStreamWords, maxStreamVocabulary, textListing, isLong, listing}
+use Rattle.node_lines.specs.Lines.{lineEnd, refusalLine, countsLine, nodeLine, nodeLines}
+use Rattle.node_listing.specs.Listing.{vocabularyOf, listedShape, indexListing, maxStream, maxStreamWords, maxStreamVocabulary, textListing, isLong, listing}
 use Rattle.node_listing.specs.Calls.{maxListing, ListingFits}
 use Rattle.node_listing.proofs.Vocabulary.{below-vocabulary}
 use Rattle.node_listing.proofs.Refusals.{text-refused, text-listed, is-long, is-broken, is-whole}
-
--- ---- lines
-
--- a refusal's number has at most two digits
-pub refusal-length : (number : ℕ) → number < 100 → length (refusalLine number) ≤ 11
-unfolding refusalLine
-refusal-length number h =
-    omega (arith, length-append (labelled (characters "refused ") number) lineEnd, labelled-length (characters "refused ") number, decimal-length 1 number h)
-
--- the numbers of a listing have at most four, three and four
-pub counts-length : (n k l : ℕ) → n ≤ 4096 → k ≤ 129 → l ≤ 8192 → length (countsLine n k l) ≤ 32
-unfolding countsLine
-counts-length n k l hn hk hl =
-    omega (
-      arith,
-      length-append (labelled (characters "words ") n ++ labelled (characters " nodes ") k ++ labelled (characters " bytes ") l) lineEnd,
-      length-append (labelled (characters "words ") n ++ labelled (characters " nodes ") k) (labelled (characters " bytes ") l),
-      length-append (labelled (characters "words ") n) (labelled (characters " nodes ") k),
-      labelled-length (characters "words ") n,
-      labelled-length (characters " nodes ") k,
-      labelled-length (characters " bytes ") l,
-      decimal-length 3 n (omega arith),
-      decimal-length 2 k (omega arith),
-      decimal-length 3 l (omega arith),
-    )
-
--- a node's line without its bytes
-headLength : ℕ → ℕ
-headLength k = 7 + length (decimal k)
-
-line-length : (k : ℕ) (bytes : List ℕ) → length (nodeLine k bytes) ≡ headLength k + 3 * length bytes
-unfolding nodeLine headLength
-line-length k bytes =
-    omega (
-      arith,
-      length-append (labelled (characters "node ") k ++ characters ":" ++ bytesText bytes) lineEnd,
-      length-append (labelled (characters "node ") k ++ characters ":") (bytesText bytes),
-      length-append (labelled (characters "node ") k) (characters ":"),
-      labelled-length (characters "node ") k,
-      length-bytes-text bytes,
-    )
-
-lines-length : (k : ℕ) (ns : List (List ℕ)) → length (nodeLines k ns) ≡ total (map headLength (rangeFrom k (length ns))) + 3 * total (map length ns)
-lines-length k [] = refl
-lines-length k (n ∷ ns) = omega (arith, length-append (nodeLine k n) (nodeLines (suc k) ns), line-length k n, lines-length (suc k) ns)
-
--- the lines of 129 nodes without their bytes
-all-heads : total (map headLength (rangeFrom 0 129)) ≡ 1180
-unfolding headLength decimal
-all-heads = refl
-
-heads-most : (n : ℕ) → n ≤ 129 → total (map headLength (rangeFrom 0 n)) ≤ 1180
-heads-most n h =
-    let e : n + (129 - n) ≡ 129 = omega arith in
-    let rest = rangeFrom (0 + n) (129 - n) in
-    let all : total (map headLength (rangeFrom 0 n)) + total (map headLength rest) ≡ 1180 =
-    sym (total-append (map headLength (rangeFrom 0 n)) (map headLength rest))
-    ∙ ap total (sym (map-append headLength (rangeFrom 0 n) rest))
-    ∙ ap (λ (xs : List ℕ). total (map headLength xs)) (sym (range-append 0 n (129 - n)) ∙ ap (rangeFrom 0) e)
-    ∙ all-heads in
-    omega arith
-
--- ---- the whole
 
 -- the published code
 pub published : Closing 128
@@ -110,7 +49,7 @@ two-most (w ∷ t) h = omega (arith, two-bytes w (h .0), two-most t (h .1))
 
 module _ (t : List ℕ) (short : length t ≤ maxStreamWords) (small : vocabularyOf t ≤ maxStreamVocabulary) where
   -- V, B and b are within their limits
-  pub within : WithinLimits 128 (shapeOf t)
+  pub within : WithinLimits 128 (listedShape t)
   within = record { someWord = omega arith; mostWords = omega arith; someByte = omega arith; someBlock = omega arith; mostBytes = omega arith }
 
   -- the ranks are a text of the vocabulary
@@ -130,20 +69,20 @@ module _ (t : List ℕ) (short : length t ≤ maxStreamWords) (small : vocabular
 
   nodes-total : total (map length (nodes 128 (vocabularyOf t) t)) ≡ length (stream 128 t)
   unfolding indexOf lengthsOf
-  nodes-total = total-lengths 128 published (shapeOf t) (within .mostWords) t (below-vocabulary t)
+  nodes-total = total-lengths 128 published (listedShape t) (within .mostWords) t (below-vocabulary t)
 
   -- so the listing has a most
   pub index-length : length (indexListing t) ≤ maxListing
   unfolding indexListing
   index-length =
-      let l : length (indexOf 128 (shapeOf t) t .bytes) ≡ length (stream 128 t) = length-bytes 128 published (shapeOf t) (within .mostWords) t (below-vocabulary t) in
-      let line = countsLine (length t) (nodeCount 128 (vocabularyOf t)) (length (indexOf 128 (shapeOf t) t .bytes)) in
+      let l : length (indexOf 128 (listedShape t) t .bytes) ≡ length (stream 128 t) = length-bytes 128 published (listedShape t) (within .mostWords) t (below-vocabulary t) in
+      let line = countsLine (length t) (nodeCount 128 (vocabularyOf t)) (length (indexOf 128 (listedShape t) t .bytes)) in
       let ns = nodes 128 (vocabularyOf t) t in
       let heads : total (map headLength (rangeFrom 0 (length ns))) ≤ 1180 = heads-most (length ns) (omega (arith, nodes-count, node-count-most)) in
       omega (
         arith,
         length-append line (nodeLines 0 ns),
-        counts-length (length t) (nodeCount 128 (vocabularyOf t)) (length (indexOf 128 (shapeOf t) t .bytes)) short node-count-most (omega (arith, bytes-most)),
+        counts-length (length t) (nodeCount 128 (vocabularyOf t)) (length (indexOf 128 (listedShape t) t .bytes)) short node-count-most (omega (arith, bytes-most)),
         lines-length 0 ns,
         nodes-total,
         bytes-most,

@@ -1,4 +1,3 @@
-pub mod NodeLines
 pub mod Vocabulary
 pub mod Refusals
 pub mod Lengths

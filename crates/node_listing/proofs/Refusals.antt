@@ -5,7 +5,8 @@ use mathlib.Core.Bool.{true, false}
 use mathlib.Core.List.{List}
 use Rattle.base.proofs.Tests.{cond-below, cond-not-below}
 use Rattle.dense.specs.Streams.{isBroken, streamText}
-use Rattle.node_listing.specs.Listing.{vocabularyOf, refusalLine, indexListing, maxStreamVocabulary, textListing, isLong, listing}
+use Rattle.node_lines.specs.Lines.{refusalLine}
+use Rattle.node_listing.specs.Listing.{vocabularyOf, indexListing, maxStreamVocabulary, textListing, isLong, listing}
 
 -- by the size of the vocabulary
 pub text-refused : (t : List ℕ) → maxStreamVocabulary < vocabularyOf t → textListing t ≡ refusalLine 1

@@ -6,7 +6,8 @@ use Rattle.dense.specs.Code.{code}
 use Rattle.dense.specs.Streams.{stream, codewords, isBroken, streamText, closings}
 use Rattle.tree.specs.Nodes.{path, reach, nodeBytes, nodes}
 use Rattle.index.specs.Arrays.{bytesOf, lengthsOf, indexOf}
-use Rattle.node_listing.specs.Listing.{refusalLine, countsLine, nodeLine, indexListing, textListing, listing}
+use Rattle.node_lines.specs.Lines.{refusalLine, countsLine, nodeLine}
+use Rattle.node_listing.specs.Listing.{indexListing, textListing, listing}
 use Rattle.node_listing.specs.Samples.{ListingSamples}
 
 pub listing-samples : ListingSamples

@@ -1,11 +1,11 @@
 -- What the printing program of paper 01 prints for a stream ("The printing program and its sample"), with 128 closing values.
-use Prim.Native.Nat.{ℕ, suc, _+_, max}
+use Prim.Native.Nat.{ℕ, _+_, max}
 use mathlib.Core.Bool.{Bool, cond, _||_}
 use mathlib.Core.List.{List, [], _∷_, _++_}
 use lib.Dec.{ltb}
 use lib.ListN.{length}
 use Rattle.base.specs.Refusals.{refusalVocabulary, refusalWords, refusalStream}
-use Rattle.formatting.specs.Characters.{characters, labelled, bytesText}
+use Rattle.node_lines.specs.Lines.{refusalLine, countsLine, nodeLines}
 use Rattle.dense.specs.Streams.{isBroken, streamText, closings}
 use Rattle.tree.specs.Nodes.{nodeCount, nodes}
 use Rattle.index.specs.declared.Shape.{Shape}
@@ -23,39 +23,15 @@ abbrev pub vocabularyOf : List ℕ → ℕ
 vocabularyOf t = largest t + 1
 
 -- V, B 256 and b 8
-abbrev pub shapeOf : List ℕ → Shape
-shapeOf t = record { vocabulary = vocabularyOf t; block = 256; «per_superblock» = 8 }
-
--- ---- lines
-
--- the byte that closes every line: 0A
-abbrev pub lineEnd : List ℕ
-lineEnd = characters "\n"
-
--- the line of a refusal
-unfoldable pub refusalLine : ℕ → List ℕ
-refusalLine number = labelled (characters "refused ") number ++ lineEnd
-
--- the line of the numbers: words n, nodes N, bytes L
-unfoldable pub countsLine : ℕ → ℕ → ℕ → List ℕ
-countsLine n nodes bytes =
-    labelled (characters "words ") n ++ labelled (characters " nodes ") nodes ++ labelled (characters " bytes ") bytes ++ lineEnd
-
--- the line of node k: its number and its bytes, a blank before each; an empty node's line ends at its colon
-unfoldable pub nodeLine : ℕ → List ℕ → List ℕ
-nodeLine k bytes = labelled (characters "node ") k ++ characters ":" ++ bytesText bytes ++ lineEnd
-
--- the lines of nodes that are numbered from k on
-abbrev pub nodeLines : ℕ → List (List ℕ) → List ℕ
-nodeLines k [] = []
-nodeLines k (bytes ∷ rest) = nodeLine k bytes ++ nodeLines (suc k) rest
+abbrev pub listedShape : List ℕ → Shape
+listedShape t = record { vocabulary = vocabularyOf t; block = 256; «per_superblock» = 8 }
 
 -- ---- what is printed
 
 -- of a text that is indexed: the numbers, and then each node
 unfoldable pub indexListing : List ℕ → List ℕ
 indexListing t =
-    countsLine (length t) (nodeCount 128 (vocabularyOf t)) (length (indexOf 128 (shapeOf t) t .bytes))
+    countsLine (length t) (nodeCount 128 (vocabularyOf t)) (length (indexOf 128 (listedShape t) t .bytes))
     ++ nodeLines 0 (nodes 128 (vocabularyOf t) t)
 
 -- the most bytes and words of a stream, and the largest V

@@ -2,7 +2,6 @@
 //
 // The entry is `write_listing`. The other functions require what their callers have tested and are
 // no entries.
-mod lines;
 
 ghost use mathlib.Core.Path.{_≡_};
 ghost use Prim.Native.Nat.{_≤_};
@@ -68,8 +67,8 @@ fn list_index(vocabulary: usize, text: &[u32], output: &mut [u8]) -> usize
     );
     let nodes = tree::node_count(dense::CLOSING, vocabulary);
     let total = built.value;
-    let next = lines::write_counts(text.len(), nodes, total, output);
-    lines::write_nodes(&lengths[..nodes], &bytes[..total], output, next)
+    let next = node_lines::write_counts(text.len(), nodes, total, output);
+    node_lines::write_nodes(&lengths[..nodes], &bytes[..total], output, next)
 }
 
 // Writes the listing of a text so; refusal 1 if V is too large.
@@ -79,7 +78,7 @@ fn list_text(text: &[u32], output: &mut [u8]) -> usize
 {
     let vocabulary = vocabulary_of(text);
     if MAX_VOCABULARY < vocabulary {
-        return lines::write_refusal(refusal::VOCABULARY, output);
+        return node_lines::write_refusal(refusal::VOCABULARY, output);
     }
     list_index(vocabulary, text, output)
 }
@@ -91,15 +90,15 @@ fn list_stream(stream: &[u8], output: &mut [u8]) -> usize
     ensures { λ r. ⌜ Wrote (listing (now (stream .entry))) 0 (now (output .entry)) r (now (output .exit)) ⌝ }
 {
     if MAX_STREAM < stream.len() {
-        return lines::write_refusal(refusal::WORDS, output);
+        return node_lines::write_refusal(refusal::WORDS, output);
     }
     let mut text = [0u32; MAX_WORDS];
     let read = dense::read_stream(stream, &mut text);
     if read.refusal == refusal::STREAM {
-        return lines::write_refusal(refusal::STREAM, output);
+        return node_lines::write_refusal(refusal::STREAM, output);
     }
     if read.refusal != 0 {
-        return lines::write_refusal(refusal::WORDS, output);
+        return node_lines::write_refusal(refusal::WORDS, output);
     }
     let words = read.value;
     list_text(&text[..words], output)

@@ -8,7 +8,7 @@ use Rattle.base.specs.Lists.{Below}
 use Rattle.base.proofs.Lists.{all-of-at}
 use Rattle.dense.specs.Streams.{streamText}
 use Rattle.node_listing.specs.Listing.{maxStreamWords}
-use Rattle.node_listing.proofs.Lengths.{refusal-length}
+use Rattle.node_lines.proofs.Lengths.{refusal-length}
 use Rattle.node_listing.proofs.Cases.{listing-long, listing-broken, listing-many, listing-read, words-read, text-read}
 use Rattle.node_listing.proofs.list_stream.Statement.{statement}
 use Rattle.node_listing.proofs.list_stream.Tie as tie

@@ -3,7 +3,7 @@ use Prim.Native.Nat.{_≤_, _<_}
 use native.Mathlib.Omega.{arith}
 use borrow.Author.Needs.{needs}
 use Rattle.node_listing.specs.Listing.{vocabularyOf, maxStreamVocabulary}
-use Rattle.node_listing.proofs.Lengths.{refusal-length}
+use Rattle.node_lines.proofs.Lengths.{refusal-length}
 use Rattle.node_listing.proofs.Refusals.{text-refused, text-listed}
 use Rattle.node_listing.proofs.list_text.Statement.{statement}
 use Rattle.node_listing.proofs.list_text.Tie as tie

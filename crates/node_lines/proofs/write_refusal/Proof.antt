@@ -1,13 +1,13 @@
--- `node_listing::lines::write_refusal` meets its contract. Assumes nothing.
+-- `node_lines::write_refusal` meets its contract. Assumes nothing.
 use Prim.Native.Nat.{_+_, _≤_}
 use native.Mathlib.Omega.{arith}
 use borrow.Author.Needs.{needs}
 use lib.ListN.{length}
 use Rattle.formatting.specs.Characters.{characters, labelled}
 use Rattle.formatting.proofs.Wrote.{room-first, room-second, wrote-both}
-use Rattle.node_listing.specs.Listing.{lineEnd, refusalLine}
-use Rattle.node_listing.proofs.lines.write_refusal.Statement.{statement}
-use Rattle.node_listing.proofs.lines.write_refusal.Tie as tie
+use Rattle.node_lines.specs.Lines.{lineEnd, refusalLine}
+use Rattle.node_lines.proofs.write_refusal.Statement.{statement}
+use Rattle.node_lines.proofs.write_refusal.Tie as tie
 
 -- the line has room from position 0 on
 room : (c : tie.Start) → 0 + length (refusalLine (c .args .number)) ≤ length (c .args .output .now)

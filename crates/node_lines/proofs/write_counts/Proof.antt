@@ -1,13 +1,13 @@
--- `node_listing::lines::write_counts` meets its contract. Assumes nothing.
+-- `node_lines::write_counts` meets its contract. Assumes nothing.
 use Prim.Native.Nat.{_+_, _≤_}
 use native.Mathlib.Omega.{arith}
 use borrow.Author.Needs.{needs}
 use lib.ListN.{length}
 use Rattle.formatting.specs.Characters.{characters, labelled}
 use Rattle.formatting.proofs.Wrote.{first-of-four, second-of-four, third-of-four, fourth-of-four, wrote-four}
-use Rattle.node_listing.specs.Listing.{lineEnd, countsLine}
-use Rattle.node_listing.proofs.lines.write_counts.Statement.{statement}
-use Rattle.node_listing.proofs.lines.write_counts.Tie as tie
+use Rattle.node_lines.specs.Lines.{lineEnd, countsLine}
+use Rattle.node_lines.proofs.write_counts.Statement.{statement}
+use Rattle.node_lines.proofs.write_counts.Tie as tie
 
 -- the line has room from position 0 on
 room : (c : tie.Start) → 0 + length (countsLine (c .args .words) (c .args .nodes) (c .args .bytes)) ≤ length (c .args .output .now)

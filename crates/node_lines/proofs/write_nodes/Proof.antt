@@ -1,4 +1,4 @@
--- `node_listing::lines::write_nodes` meets its contract. The loop's invariant: the lines of the nodes passed are written, and the next
+-- `node_lines::write_nodes` meets its contract. The loop's invariant: the lines of the nodes passed are written, and the next
 -- node starts where they end. Assumes nothing.
 use Prim.Native.Nat.{ℕ, _+_, _≤_, _-_}
 use mathlib.Core.Path.{_≡_, sym}
@@ -13,10 +13,10 @@ use Rattle.base.proofs.Sums.{total-take-suc, total-take-whole}
 use Rattle.base.proofs.Segments.{segment-at, count-segments}
 use Rattle.formatting.specs.Writing.{Wrote}
 use Rattle.formatting.proofs.Wrote.{wrote-none}
-use Rattle.node_listing.specs.Listing.{nodeLines}
-use Rattle.node_listing.proofs.NodeLines.{lines-as-long, lines-next-room, lines-next-written}
-use Rattle.node_listing.proofs.lines.write_nodes.Statement.{statement}
-use Rattle.node_listing.proofs.lines.write_nodes.Tie as tie
+use Rattle.node_lines.specs.Lines.{nodeLines}
+use Rattle.node_lines.proofs.NodeLines.{lines-as-long, lines-next-room, lines-next-written}
+use Rattle.node_lines.proofs.write_nodes.Statement.{statement}
+use Rattle.node_lines.proofs.write_nodes.Tie as tie
 
 abbrev Inv-loop : tie.InvT-loop
 Inv-loop lengths bytes output₀ at next₀ start₀ node₀ output next start node =

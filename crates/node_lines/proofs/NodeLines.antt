@@ -7,7 +7,7 @@ use native.Mathlib.Numerals.{add-one}
 use lib.ListN.{length, take, getD, length-append}
 use Rattle.formatting.specs.Writing.{Wrote}
 use Rattle.formatting.proofs.Wrote.{wrote-length, room-second, wrote-both}
-use Rattle.node_listing.specs.Listing.{nodeLine, nodeLines}
+use Rattle.node_lines.specs.Lines.{nodeLine, nodeLines}
 
 -- the lines of the first i + 1 nodes are those of the first i, and one more
 pub lines-next : (k : ℕ) (ns : List (List ℕ)) (i : ℕ) → i < length ns → nodeLines k (take (i + 1) ns) ≡ nodeLines k (take i ns) ++ nodeLine (k + i) (getD ns i [])

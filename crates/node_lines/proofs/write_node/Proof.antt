@@ -1,12 +1,12 @@
--- `node_listing::lines::write_node` meets its contract. Assumes nothing.
+-- `node_lines::write_node` meets its contract. Assumes nothing.
 use native.Mathlib.Omega.{arith}
 use borrow.Author.Needs.{needs}
 use Rattle.formatting.specs.Characters.{characters, labelled, bytesText}
 use Rattle.formatting.proofs.Wrote.{first-of-four, second-of-four, third-of-four, fourth-of-four, wrote-four}
 use Rattle.formatting.proofs.Texts.{length-bytes-text}
-use Rattle.node_listing.specs.Listing.{lineEnd, nodeLine}
-use Rattle.node_listing.proofs.lines.write_node.Statement.{statement}
-use Rattle.node_listing.proofs.lines.write_node.Tie as tie
+use Rattle.node_lines.specs.Lines.{lineEnd, nodeLine}
+use Rattle.node_lines.proofs.write_node.Statement.{statement}
+use Rattle.node_lines.proofs.write_node.Tie as tie
 
 slice-aggregate-write-labelled : tie.Need-slice-aggregate-write-labelled
 slice-aggregate-write-labelled c = search needs

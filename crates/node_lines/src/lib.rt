@@ -1,13 +1,13 @@
-// The lines of a listing, each written from a position of a slice on: the position after it is
-// returned.
+// The lines of the listing of a stream's nodes, each written from a position of a slice on: the
+// position after it is returned. No function here is an entry: each requires that the slice has room.
 ghost use Prim.Native.Nat.{_+_, _≤_};
 ghost use lib.ListN.{length};
 ghost use Rattle.base.specs.Lists.{total, segments};
 ghost use Rattle.formatting.specs.Writing.{Wrote};
-ghost use Rattle.node_listing.specs.Listing.{refusalLine, countsLine, nodeLine, nodeLines};
+ghost use Rattle.node_lines.specs.Lines.{refusalLine, countsLine, nodeLine, nodeLines};
 
 // Writes the line of a refusal to the front of a slice.
-pub(crate) fn write_refusal(number: u32, output: &mut [u8]) -> usize
+pub fn write_refusal(number: u32, output: &mut [u8]) -> usize
     requires { ⌜ length (refusalLine number) ≤ length (now output) ⌝ }
     ensures { λ r. ⌜ Wrote (refusalLine number) 0 (now (output .entry)) r (now (output .exit)) ⌝ }
 {
@@ -16,7 +16,7 @@ pub(crate) fn write_refusal(number: u32, output: &mut [u8]) -> usize
 }
 
 // Writes the line of the numbers to the front of a slice.
-pub(crate) fn write_counts(words: usize, nodes: usize, bytes: usize, output: &mut [u8]) -> usize
+pub fn write_counts(words: usize, nodes: usize, bytes: usize, output: &mut [u8]) -> usize
     requires { ⌜ length (countsLine words nodes bytes) ≤ length (now output) ⌝ }
     ensures { λ r. ⌜ Wrote (countsLine words nodes bytes) 0 (now (output .entry)) r (now (output .exit)) ⌝ }
 {
@@ -39,7 +39,7 @@ fn write_node(node: usize, bytes: &[u8], output: &mut [u8], at: usize) -> usize
 
 // Writes the lines of the nodes that lie in the bytes one after another, each as long as its length
 // says.
-pub(crate) fn write_nodes(lengths: &[u32], bytes: &[u8], output: &mut [u8], at: usize) -> usize
+pub fn write_nodes(lengths: &[u32], bytes: &[u8], output: &mut [u8], at: usize) -> usize
     requires { ⌜ (total (now lengths) ≤ length (now bytes)) × (at + length (nodeLines 0 (segments (now lengths) (now bytes))) ≤ length (now output)) ⌝ }
     ensures { λ r. ⌜ Wrote (nodeLines 0 (segments (now (lengths .entry)) (now (bytes .entry)))) at (now (output .entry)) r (now (output .exit)) ⌝ }
 {
