@@ -174,7 +174,7 @@ fn page_of_one(small: SmallIndex, state: Listing) -> Listing {
     let page = small.page(state, &[7, 7], 0, 2, &mut line);
     printing::ranks(&line);
     if page.more {
-        printing::words(b" and more,");
+        printing::words(b" and more");
     } else {
         printing::words(b" and the end");
     }
@@ -184,12 +184,12 @@ fn page_of_one(small: SmallIndex, state: Listing) -> Listing {
 // Asks for a page of no lines of the phrase 7 7, which is turned down, and lists on with the state
 // that it hands back.
 fn refuse_page(small: SmallIndex, state: Listing) {
-    start(b"After the first of these a page of no lines is asked for, and the next page lists");
+    start(b"After the first of these pages one of no lines is asked for");
     let page = small.page(state, &[7, 7], 0, 2, &mut []);
     refused(page.answer);
-    printing::words(b",");
+    printing::words(b", and the page after it lists");
     page_of_one(small, page.listing);
-    end(b"not 12, or another place than 1: a page that is turned down moves the listing");
+    end(b"not 12, or not 1 and more: a page that is turned down moves the listing");
 }
 
 // Lists a phrase that overlaps itself, on one page and on pages of one line, and counts it.
@@ -202,7 +202,9 @@ fn list_phrase() {
     end(b"without 1: the search moves on by the phrase's length");
     printing::words(b"On pages of one line it is listed at");
     let second = page_of_one(small, Listing::open());
+    printing::words(b",");
     let third = page_of_one(small, second);
+    printing::words(b",");
     page_of_one(small, third);
     end(b"an earlier end, or a 9: the later pages are blank");
     refuse_page(small, second);
