@@ -21,7 +21,7 @@ const LIST: [u8; 14] = [
 
 // Reads a text and writes the line of the case.
 fn show(name: &[u8], list: &[u8], text: &[u8], ranks: &mut [u32]) {
-    let answer = lexicon::read_text(list, text, ranks);
+    let answer = plain_text::read_text(list, text, ranks);
     printing::words(name);
     printing::answer_with_ranks(answer, ranks);
 }
