@@ -131,7 +131,7 @@ fn decode(numbers: Numbers) {
 // Reads plain text through the word list into a slice.
 fn read_text(state: State, text: &[u8], ranks: &mut [u32]) {
     let list = state.list;
-    let answer = lexicon::read_text(small_indexes::front_bytes(&list, state.size), text, ranks);
+    let answer = plain_text::read_text(small_indexes::front_bytes(&list, state.size), text, ranks);
     printing::answered_with_ranks(answer, ranks);
 }
 

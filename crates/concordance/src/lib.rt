@@ -208,5 +208,5 @@ pub extern "C" fn concordance_list(
 pub extern "C" fn concordance_read_text(list: &[u8], text: &[u8], ranks: &mut [u32]) -> Answer
     ensures { λ r. ⌜ (r ≡ readTextAnswer letters (now (list .entry)) (now (text .entry)) (now (ranks .entry))) × (now (ranks .exit) ≡ readTextExit letters (now (list .entry)) (now (text .entry)) (now (ranks .entry))) ⌝ }
 {
-    lexicon::read_text(list, text, ranks)
+    plain_text::read_text(list, text, ranks)
 }

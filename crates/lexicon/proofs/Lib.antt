@@ -1,9 +1,5 @@
 pub mod Tables
-pub mod Scans
-pub mod Written
-pub mod Members
-pub mod Parts
-pub mod Listed
-pub mod Calls
-pub mod Theorem
 pub mod Samples
+pub mod Members
+pub mod WordLists
+pub mod Calls

@@ -11,27 +11,27 @@ use lib.Seq.{getD-take}
 use Rattle.base.specs.Lists.{firstWhere, same}
 use Rattle.base.proofs.Tests.{below-or-not, and-left, and-right, and-true, false-of}
 use Rattle.base.proofs.Lists.{first-where-most, first-where-passes, same-yes, same-true}
-use Rattle.lexicon.specs.Lexicon.{rankIn, isIn, distinct}
+use Rattle.lexicon.specs.Lexicon.{listRank, isIn, distinct}
 
 -- ---- members
 
 -- a word that stands somewhere is in the list
 pub in-at : (ws : List (List ℕ)) (w : List ℕ) (j : ℕ) → j < length ws → w ≡ getD ws j [] → isIn ws w ≡ true
-unfolding isIn rankIn
+unfolding isIn listRank
 in-at ws w j h e = lt-ltb (firstWhere (same w) ws) (length ws) (omega (arith, first-where-most (same w) ws [] j h (same-yes w (getD ws j []) e)))
 
 -- a word of the list stands where its rank is
-pub rank-below : (ws : List (List ℕ)) (w : List ℕ) → isIn ws w ≡ true → rankIn ws w < length ws
+pub list-rank-below : (ws : List (List ℕ)) (w : List ℕ) → isIn ws w ≡ true → listRank ws w < length ws
 unfolding isIn
-rank-below ws w e = ltb-true (rankIn ws w) (length ws) e
+list-rank-below ws w e = ltb-true (listRank ws w) (length ws) e
 
-pub rank-stands : (ws : List (List ℕ)) (w : List ℕ) → isIn ws w ≡ true → w ≡ getD ws (rankIn ws w) []
-unfolding isIn rankIn
-rank-stands ws w e = same-true w (getD ws (firstWhere (same w) ws) []) (first-where-passes (same w) ws [] (ltb-true (firstWhere (same w) ws) (length ws) e))
+pub list-rank-stands : (ws : List (List ℕ)) (w : List ℕ) → isIn ws w ≡ true → w ≡ getD ws (listRank ws w) []
+unfolding isIn listRank
+list-rank-stands ws w e = same-true w (getD ws (firstWhere (same w) ws) []) (first-where-passes (same w) ws [] (ltb-true (firstWhere (same w) ws) (length ws) e))
 
 -- a word that stands nowhere is not in the list
 pub not-in : (ws : List (List ℕ)) (w : List ℕ) → ((j : ℕ) → j < length ws → w ≡ getD ws j [] → ⊥) → isIn ws w ≡ false
-not-in ws w n = false-of (isIn ws w) (λ e. n (rankIn ws w) (rank-below ws w e) (rank-stands ws w e))
+not-in ws w n = false-of (isIn ws w) (λ e. n (listRank ws w) (list-rank-below ws w e) (list-rank-stands ws w e))
 
 -- ---- no word twice
 
@@ -58,10 +58,10 @@ distinct-of (w ∷ ws) n =
     (distinct-of ws (λ i j l h q. n (suc i) (suc j) (omega arith) (omega arith) q))
 
 -- the rank of a word that stands somewhere is that place
-pub rank-at : (ws : List (List ℕ)) (w : List ℕ) (i : ℕ) → distinct ws ≡ true → i < length ws → w ≡ getD ws i [] → rankIn ws w ≡ i
-rank-at ws w i e h q =
+pub list-rank-at : (ws : List (List ℕ)) (w : List ℕ) (i : ℕ) → distinct ws ≡ true → i < length ws → w ≡ getD ws i [] → listRank ws w ≡ i
+list-rank-at ws w i e h q =
     let m : isIn ws w ≡ true = in-at ws w i h q in
-    distinct-place ws (rankIn ws w) i e (rank-below ws w m) h (sym (rank-stands ws w m) ∙ q)
+    distinct-place ws (listRank ws w) i e (list-rank-below ws w m) h (sym (list-rank-stands ws w m) ∙ q)
 
 -- in a front of the list
 pub in-front : (ws : List (List ℕ)) (w : List ℕ) (n j : ℕ) → j < n → j < length ws → w ≡ getD ws j [] → isIn (take n ws) w ≡ true
@@ -69,9 +69,9 @@ in-front ws w n j l h q = in-at (take n ws) w j (omega (arith, length-take n ws)
 
 -- a word of a front stands in it
 pub front-place : (ws : List (List ℕ)) (w : List ℕ) (n : ℕ) → isIn (take n ws) w ≡ true
-    → (rankIn (take n ws) w < n) × (rankIn (take n ws) w < length ws) × (w ≡ getD ws (rankIn (take n ws) w) [])
+    → (listRank (take n ws) w < n) × (listRank (take n ws) w < length ws) × (w ≡ getD ws (listRank (take n ws) w) [])
 front-place ws w n e =
-    let h : rankIn (take n ws) w < length (take n ws) = rank-below (take n ws) w e in
+    let h : listRank (take n ws) w < length (take n ws) = list-rank-below (take n ws) w e in
     let m : length (take n ws) ≡ min n (length ws) = length-take n ws in
-    let l : rankIn (take n ws) w < n = omega arith in
-    (l, omega arith, rank-stands (take n ws) w e ∙ getD-take n ws (rankIn (take n ws) w) [] l)
+    let l : listRank (take n ws) w < n = omega arith in
+    (l, omega arith, list-rank-stands (take n ws) w e ∙ getD-take n ws (listRank (take n ws) w) [] l)

@@ -4,7 +4,7 @@ use Rattle.base.specs.Answers.{firstOf, front, filled}
 use Rattle.base.specs.Texts.{outside, wordsCase}
 use Rattle.dense.specs.Code.{vocabularyCase}
 use Rattle.lexicon.specs.Letters.{within, letterOf, letters}
-use Rattle.lexicon.specs.Lexicon.{listSize, listWords, rankIn, isIn, isSpelling, isSpelled, isWritten, isList}
+use Rattle.lexicon.specs.Lexicon.{listSize, listWords, listRank, isIn, isSpelling, isSpelled, isWritten, isList}
 use Rattle.lexicon.specs.Reading.{textWords, textRanks, isListed, firstUnlisted, readTextAnswer, readTextExit}
 use Rattle.lexicon.specs.Samples.{LetterEdges, ReadingSamples}
 
@@ -13,7 +13,7 @@ unfolding within outside letterOf
 letter-edges = refl
 
 pub reading-samples : ReadingSamples
-unfolding firstOf front filled outside wordsCase vocabularyCase within letterOf letters listSize listWords rankIn isIn isSpelling isSpelled isWritten isList textWords textRanks isListed firstUnlisted readTextAnswer readTextExit
+unfolding firstOf front filled outside wordsCase vocabularyCase within letterOf letters listSize listWords listRank isIn isSpelling isSpelled isWritten isList textWords textRanks isListed firstUnlisted readTextAnswer readTextExit
 reading-samples =
     record {
       words = refl;

@@ -12,7 +12,7 @@ use Rattle.base.specs.Texts.{outside}
 use Rattle.base.proofs.Tests.{and-left, and-right}
 use Rattle.base.proofs.Lists.{all-at, all-of-pass}
 use Rattle.base.proofs.Ranges.{getD-map-range}
-use Rattle.lexicon.specs.Letters.{within, letterOf, letters, letterIn, keeps, isTable, LettersRule, lineFeed}
+use Rattle.lexicon.specs.Letters.{within, letterOf, letters, letterIn, keeps, lineFeed, isTable, LettersRule}
 
 -- the letter table follows the rule, by one computed test
 pub letters-rule : LettersRule

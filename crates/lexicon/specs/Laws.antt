@@ -11,31 +11,39 @@ use Rattle.base.specs.Answers.{accepted, refusedAt}
 use Rattle.base.specs.Texts.{maxWords}
 use Rattle.dense.specs.Code.{maxVocabulary}
 use Rattle.lexicon.specs.Letters.{letterIn, isTable}
-use Rattle.lexicon.specs.Lexicon.{listSize, listWords, isSpelled, isList}
-use Rattle.lexicon.specs.Reading.{Word, endOf, textWords, textRanks, isListed, readTextAnswer, readTextExit}
+use Rattle.lexicon.specs.Lexicon.{listSize, listWords, listRank, isSpelled, isList}
+use Rattle.lexicon.specs.Reading.{TextWord, wordEnd, textWords, textRanks, isListed, readTextAnswer, readTextExit}
 
 -- a longest run of non-separators of a text, folded: the offset points at its first byte, each of its bytes is a non-separator, and before it and
 -- behind it stands a separator or an end of the text
-pub record IsRun (table text : List ℕ) (w : Word) : Type 0 where
+pub record IsRun (table text : List ℕ) (w : TextWord) : Type 0 where
   pub some : 0 < length (w .spelling)
-  pub inside : endOf w ≤ length text
+  pub inside : wordEnd w ≤ length text
   pub folded : w .spelling ≡ map (letterIn table) (take (length (w .spelling)) (drop (w .offset) text))
   pub letters : (i : ℕ) → i < length (w .spelling) → letterIn table (getD text (w .offset + i) 0) ≡ 0 → ⊥
   pub before : (p : ℕ) → suc p ≡ w .offset → letterIn table (getD text p 0) ≡ 0
-  pub behind : endOf w < length text → letterIn table (getD text (endOf w) 0) ≡ 0
+  pub behind : wordEnd w < length text → letterIn table (getD text (wordEnd w) 0) ≡ 0
 
 -- each word ends before the words behind it begin, with a separator between
-abbrev pub InOrder : List Word → Type 0
+abbrev pub InOrder : List TextWord → Type 0
 InOrder [] = Unit {0}
-InOrder (w ∷ ws) = All (λ (v : Word). endOf w < v .offset) ws × InOrder ws
+InOrder (w ∷ ws) = All (λ (v : TextWord). wordEnd w < v .offset) ws × InOrder ws
 
 -- Statement: the words of a text are its longest runs of non-separators, in their order, and a byte that is in none of them is a separator.
-pub record WordsExact (table text : List ℕ) : Type 0 where
+pub record LongestRuns (table text : List ℕ) : Type 0 where
   pub runs : All (IsRun table text) (textWords table text)
   pub inOrder : InOrder (textWords table text)
   pub separators :
-      (p : ℕ) → p < length text → All (λ (w : Word). (p < w .offset) ⊎ (endOf w ≤ p)) (textWords table text) →
+      (p : ℕ) → p < length text → All (λ (w : TextWord). (p < w .offset) ⊎ (wordEnd w ≤ p)) (textWords table text) →
       letterIn table (getD text p 0) ≡ 0
+
+-- Statement: a list that keeps the rules gives V words, and the word number i has the rank i.
+pub record WordListExact (list : List ℕ) : Type 0 where
+  pub sized : length (listWords list) ≡ listSize list
+  pub ranked : (i : ℕ) → i < listSize list → listRank (listWords list) (getD (listWords list) i []) ≡ i
+
+abbrev pub WordListsExact : Type 0
+WordListsExact = (table list : List ℕ) → isList table list ≡ true → WordListExact list
 
 -- what the call that reads a plain text asks of the list, the text and the slice
 pub record Accepts (table list text z : List ℕ) : Type 0 where
@@ -51,10 +59,10 @@ unfoldable pub unlistedPlace : List ℕ → List ℕ → List ℕ → ℕ
 unlistedPlace table list text = firstWhere (λ w. not (isListed list w)) (textWords table text)
 
 -- Statement: reading a plain text through a word list, with a table that keeps the rule.
-pub record ReadingExact (table : List ℕ) : Type 0 where
-  pub words : (text : List ℕ) → WordsExact table text
+pub record ReadTextExact (table : List ℕ) : Type 0 where
+  pub words : (text : List ℕ) → LongestRuns table text
   -- each word of a text is spelled as the words of a list are
-  pub spelled : (text : List ℕ) → All (λ (w : Word). isSpelled table (w .spelling) ≡ true) (textWords table text)
+  pub spelled : (text : List ℕ) → All (λ (w : TextWord). isSpelled table (w .spelling) ≡ true) (textWords table text)
   -- a call is accepted exactly if it has what it asks, and returns the number of words
   pub accepts : (list text z : List ℕ) → Accepts table list text z → readTextAnswer table list text z ≡ accepted (length (textWords table text))
   pub acceptedOnly : (list text z : List ℕ) → readTextAnswer table list text z .refusal ≡ 0 → Accepts table list text z
@@ -66,12 +74,12 @@ pub record ReadingExact (table : List ℕ) : Type 0 where
   pub ranks :
       (list text z : List ℕ) (p : ℕ) → readTextAnswer table list text z .refusal ≡ 0 → p < length (textWords table text) →
       (getD (textRanks table list text) p 0 < listSize list)
-      × (getD (listWords list) (getD (textRanks table list text) p 0) [] ≡ getD (map (λ (w : Word). w .spelling) (textWords table text)) p [])
+      × (getD (listWords list) (getD (textRanks table list text) p 0) [] ≡ getD (map (λ (w : TextWord). w .spelling) (textWords table text)) p [])
   -- a call refused with 14 returns the offset of a word that is not in the list, and all words before it are
   pub unlisted :
       (list text z : List ℕ) (at : ℕ) → readTextAnswer table list text z ≡ refusedAt refusalUnlisted at →
       (unlistedPlace table list text < length (textWords table text))
-      × (getD (map (λ (w : Word). w .offset) (textWords table text)) (unlistedPlace table list text) 0 ≡ at)
+      × (getD (map (λ (w : TextWord). w .offset) (textWords table text)) (unlistedPlace table list text) 0 ≡ at)
       × (getD (map (isListed list) (textWords table text)) (unlistedPlace table list text) true ≡ false)
       × ((p : ℕ) → p < unlistedPlace table list text → getD (map (isListed list) (textWords table text)) p true ≡ true)
   -- a call leaves the slice's length, and a refused one the slice
@@ -80,4 +88,4 @@ pub record ReadingExact (table : List ℕ) : Type 0 where
 
 -- Statement: for every table that keeps the rule, so for the letter table.
 abbrev pub ReadingOfTables : Type 0
-ReadingOfTables = (table : List ℕ) → isTable table ≡ true → ReadingExact table
+ReadingOfTables = (table : List ℕ) → isTable table ≡ true → ReadTextExact table

@@ -22,12 +22,12 @@ isClosed (x ∷ []) = eqb x lineFeed
 isClosed (x ∷ y ∷ ys) = isClosed (y ∷ ys)
 
 -- the rank of a word in a list of words, which is where it stands; their number where it is not among them
-unfoldable pub rankIn : List (List ℕ) → List ℕ → ℕ
-rankIn words w = firstWhere (same w) words
+unfoldable pub listRank : List (List ℕ) → List ℕ → ℕ
+listRank words w = firstWhere (same w) words
 
 -- whether a word is in a list of words
 unfoldable pub isIn : List (List ℕ) → List ℕ → Bool
-isIn words w = ltb (rankIn words w) (length words)
+isIn words w = ltb (listRank words w) (length words)
 
 -- whether no word is there twice
 abbrev pub distinct : List (List ℕ) → Bool

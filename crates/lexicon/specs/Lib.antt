@@ -3,5 +3,3 @@ pub mod Lexicon
 pub mod Reading
 pub mod Laws
 pub mod Samples
-pub mod Scans
-pub mod Parts

@@ -11,41 +11,41 @@ use Rattle.base.specs.Answers.{accepted, refused, refusedAt, _⇒_, firstOf, fi
 use Rattle.base.specs.Texts.{wordsCase}
 use Rattle.dense.specs.Code.{vocabularyCase}
 use Rattle.lexicon.specs.Letters.{letterIn}
-use Rattle.lexicon.specs.Lexicon.{listSize, listWords, rankIn, isIn, isList}
+use Rattle.lexicon.specs.Lexicon.{listSize, listWords, listRank, isIn, isList}
 
 -- a word of a plain text: the byte offset at which it starts, and its folded bytes
-pub record Word : Type 0 where
+pub record TextWord : Type 0 where
   pub offset : ℕ
   pub spelling : List ℕ
 
-abbrev pub word : ℕ → List ℕ → Word
+abbrev pub word : ℕ → List ℕ → TextWord
 word i xs = record { offset = i; spelling = xs }
 
 -- the offset at which a word ends, right behind its last byte
-abbrev pub endOf : Word → ℕ
-endOf w = w .offset + length (w .spelling)
+abbrev pub wordEnd : TextWord → ℕ
+wordEnd w = w .offset + length (w .spelling)
 
 -- the words from a non-separator at offset i on, which is folded to x: it belongs to the word that starts right after it, or is one by itself
-abbrev pub extended : ℕ → ℕ → List Word → List Word
+abbrev pub extended : ℕ → ℕ → List TextWord → List TextWord
 extended i x [] = word i (x ∷ []) ∷ []
 extended i x (w ∷ ws) = cond (eqb (w .offset) (suc i)) (word i (x ∷ w .spelling) ∷ ws) (word i (x ∷ []) ∷ w ∷ ws)
 
 -- the words of a text whose first byte has offset i: the longest runs of non-separators, folded by the table
-abbrev pub wordsFrom : List ℕ → ℕ → List ℕ → List Word
+abbrev pub wordsFrom : List ℕ → ℕ → List ℕ → List TextWord
 wordsFrom table i [] = []
 wordsFrom table i (x ∷ xs) =
     cond (eqb (letterIn table x) 0) (wordsFrom table (suc i) xs) (extended i (letterIn table x) (wordsFrom table (suc i) xs))
 
 -- the words of a plain text
-unfoldable pub textWords : List ℕ → List ℕ → List Word
+unfoldable pub textWords : List ℕ → List ℕ → List TextWord
 textWords table text = wordsFrom table 0 text
 
 -- the ranks of the words of a plain text in a word list
 unfoldable pub textRanks : List ℕ → List ℕ → List ℕ → List ℕ
-textRanks table list text = map (λ w. rankIn (listWords list) (w .spelling)) (textWords table text)
+textRanks table list text = map (λ w. listRank (listWords list) (w .spelling)) (textWords table text)
 
 -- whether a word of a plain text is in the list
-unfoldable pub isListed : List ℕ → Word → Bool
+unfoldable pub isListed : List ℕ → TextWord → Bool
 isListed list w = isIn (listWords list) (w .spelling)
 
 -- the byte offset of the first word of a plain text that is not in the list

@@ -14,8 +14,7 @@ use Rattle.dense.specs.Code.{vocabularyCase}
 use Rattle.directory.specs.Counters.{blocksCase}
 use Rattle.index.specs.Entries.{indexCases, checkAnswer}
 use Rattle.phrases.specs.Phrases.{places, stands}
-use Rattle.pages.specs.Pages
-use Rattle.pages.specs.Pages.{pageOver}
+use Rattle.pages.specs.Pages.{HitPage, pageOver}
 use Rattle.pages.proofs.Searching.{made-finished}
 use Rattle.searches.specs.declared.Written.{Written}
 use Rattle.searches.specs.Searching.{writtenOf}
@@ -156,4 +155,4 @@ module _ (call : Call) (state : Listing) where
       let c : callPage call state ≡ pageOver (stands (callText call) (callPhrase call)) (length (callText call)) (length (call .lines)) (state .next) true = rw f in
       let w : _≡_ {A = Written} (record { count = 0; more = false; next = state .next; finished = state .finished }) (writtenOf (callPage call state)) =
       rw (c, f, sym (m .valueIs), sym (m .moreIs), sym (m .nextIs), sym (m .finishedIs)) in
-      page-written e (record { count = 0; more = false; next = state .next; finished = state .finished }) (call .lines) w (m .sliceIs ∙ ap (λ (x : Pages.Page). front (x .found) (call .lines)) (sym c))
+      page-written e (record { count = 0; more = false; next = state .next; finished = state .finished }) (call .lines) w (m .sliceIs ∙ ap (λ (x : HitPage). front (x .found) (call .lines)) (sym c))

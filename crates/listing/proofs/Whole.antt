@@ -11,6 +11,7 @@ use Rattle.base.specs.Answers.{accepted}
 use Rattle.base.specs.Texts.{maxPhrase}
 use Rattle.base.proofs.Answers.{answers}
 use Rattle.base.proofs.Members.{getD-mem}
+use Rattle.base.proofs.Tests.{false-of}
 use Rattle.dense.specs.Code.{Closing}
 use Rattle.index.specs.declared.Shape.{Shape}
 use Rattle.index.specs.Arrays.{Arrays, textIn}
@@ -19,8 +20,7 @@ use Rattle.index.proofs.Refusals.{check-limits}
 use Rattle.index.proofs.Exact.{index-exact}
 use Rattle.phrases.specs.Phrases.{stands, places}
 use Rattle.phrases.proofs.Exact.{places-are-exact}
-use Rattle.pages.specs.Runs
-use Rattle.pages.specs.Runs.{IsPage, IsListing}
+use Rattle.pages.specs.Runs.{CompleteRun, IsPage, IsListing}
 use Rattle.pages.proofs.Complete.{every-run-complete}
 use Rattle.questions.specs.declared.Question.{Question}
 use Rattle.questions.specs.Answering.{askAnswer, questionAnswer, phraseAnswer, phraseIn, phraseCases}
@@ -74,7 +74,7 @@ module _ (s : ℕ) (shape : Shape) (a : Arrays) (phrase : List ℕ) (within : Cl
       )
 
   module _ (calls : List Call) (bring : (before : List Call) (call : Call) (after : List Call) → before ++ call ∷ after ≡ calls → isPage (resultAfter before call) ≡ true → Brings s shape a phrase call) where
-    run : Runs.Complete outcomeOf (λ (st : Listing). st .next) (λ (c : Call). c .lines) (Brings s shape a phrase) (stands text phrase) (length text) opened calls
+    run : CompleteRun outcomeOf (λ (st : Listing). st .next) (λ (c : Call). c .lines) (Brings s shape a phrase) (stands text phrase) (length text) opened calls
     run =
         every-run-complete Call Listing outcomeOf (λ (st : Listing). st .next) (λ (st : Listing). st .finished) (λ (c : Call). c .lines) (Brings s shape a phrase) (λ (st : Listing). Unit {0})
         (stands text phrase) (length text) is-listing opened refl refl tt calls bring
@@ -89,11 +89,18 @@ module _ (s : ℕ) (shape : Shape) (a : Arrays) (phrase : List ℕ) (within : Cl
       theText = index-exact s shape within .rebuilt a passed;
       noOther = λ u h. index-exact s shape within .onlyOne shape refl u text a (check-limits s within shape a passed .0) h (index-exact s shape within .rebuilt a passed);
       thePlaces = places-are-exact text phrase .standing;
+      eachOnce = places-are-exact text phrase .once;
+      placesAscend = places-are-exact text phrase .inOrder;
       firstPlaces = run .firstHits;
       ascending = run .ascending;
       nothingElse = found-stands;
       endReported = run .endReported;
       allFound = λ before call after e h m. run .allFound before call after e record { accepted = h; noMore = m };
+      noneMissed = λ before call after e h m q st.
+          run .noneMissed before call after e record { accepted = h; noMore = m } q (omega (arith, places-are-exact text phrase .standing q .0 st .0)) st;
+      lastReported = λ before call after e h q m none.
+          run .lastWritten before call after e q (rw h m) (λ p l i. false-of (stands text phrase p) (λ st. omega (arith, l, none p st))) .noMore;
+      noneReported = λ before call after e h none. run .noHits before call after e h (λ p l. none p) .noMore;
       pageAccepted = run .pageAccepted;
       countOfAll = count-of-all;
       passageIsPhrase = λ i l z n. passage-is-phrase (getD (foundBy calls) i 0) (found-stands i l) z n;

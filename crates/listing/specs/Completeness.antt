@@ -2,10 +2,10 @@
 use Prim.Native.Nat.{ℕ, _+_, _≤_, _<_}
 use mathlib.Core.Path.{_≡_}
 use mathlib.Core.Logic.{_↔_}
-use mathlib.Core.Bool.{Bool, true, false}
-use mathlib.Core.List.{List, [], _∷_, _++_}
+use mathlib.Core.Bool.{Bool, true, false, cond}
+use mathlib.Core.List.{List, [], _∷_, _++_, List·Memᴰ}
 use lib.ListN.{length, take, getD}
-use Rattle.base.specs.Lists.{Below}
+use Rattle.base.specs.Lists.{Below, countOf}
 use Rattle.base.specs.Answers.{accepted, isAccepted}
 use Rattle.base.specs.Texts.{maxPhrase}
 use Rattle.dense.specs.Code.{Closing}
@@ -50,6 +50,10 @@ resultAfter before call = pageOf call (stateAfter outcomeOf opened before)
 abbrev pub isPage : PageResult → Bool
 isPage result = isAccepted (result .page .answer)
 
+-- the hits of an accepted page: as many elements from the front of its slice as its value says
+abbrev pub hitsOf : PageResult → List ℕ
+hitsOf result = take (result .page .answer .value) (result .lines)
+
 -- a part of the lent words is inside them and is the phrase
 pub record IsPart (words : List ℕ) (start len : ℕ) (phrase : List ℕ) : Type 0 where
   pub inside : start + len ≤ length words
@@ -71,6 +75,9 @@ pub record Complete (s : ℕ) (shape : Shape) (a : Arrays) (phrase t : List ℕ)
   pub thePlaces :
       (q : ℕ) →
       (stands t phrase q ≡ true) ↔ ((q + length phrase ≤ length t) × ((i : ℕ) → i < length phrase → getD t (q + i) 0 ≡ getD phrase i 0))
+  -- `places` lists them ascending, all of them and each once
+  pub eachOnce : (q : ℕ) → countOf q (places t phrase) ≡ cond (stands t phrase q) 1 0
+  pub placesAscend : (i j : ℕ) → i < j → j < length (places t phrase) → getD (places t phrase) i 0 < getD (places t phrase) j 0
   -- found are the first of them, as many as the accepted pages had lines, or every place if there are fewer
   pub firstPlaces : foundBy calls ≡ take (linesOf calls) (places t phrase)
   -- found is ascending, so that nothing is found twice
@@ -86,6 +93,21 @@ pub record Complete (s : ℕ) (shape : Shape) (a : Arrays) (phrase t : List ℕ)
   pub allFound :
       (before : List Call) (call : Call) (after : List Call) → before ++ call ∷ after ≡ calls →
       isPage (resultAfter before call) ≡ true → resultAfter before call .page .more ≡ false → foundBy calls ≡ places t phrase
+  -- and so is each place at which the phrase stands
+  pub noneMissed :
+      (before : List Call) (call : Call) (after : List Call) → before ++ call ∷ after ≡ calls →
+      isPage (resultAfter before call) ≡ true → resultAfter before call .page .more ≡ false →
+      (q : ℕ) → stands t phrase q ≡ true → List·Memᴰ q (foundBy calls)
+  -- the page that takes the last place reports the end
+  pub lastReported :
+      (before : List Call) (call : Call) (after : List Call) → before ++ call ∷ after ≡ calls →
+      isPage (resultAfter before call) ≡ true →
+      (q : ℕ) → List·Memᴰ q (hitsOf (resultAfter before call)) → ((p : ℕ) → stands t phrase p ≡ true → p ≤ q) →
+      resultAfter before call .page .more ≡ false
+  -- where the phrase stands nowhere, each accepted page reports the end, so the first one does
+  pub noneReported :
+      (before : List Call) (call : Call) (after : List Call) → before ++ call ∷ after ≡ calls →
+      isPage (resultAfter before call) ≡ true → ((p : ℕ) → stands t phrase p ≡ false) → resultAfter before call .page .more ≡ false
   -- a call of the list that brings the same and a page of one line or more is accepted
   pub pageAccepted :
       (before : List Call) (call : Call) (after : List Call) → before ++ call ∷ after ≡ calls →

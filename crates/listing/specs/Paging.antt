@@ -11,8 +11,7 @@ use Rattle.index.specs.declared.Shape.{Shape}
 use Rattle.index.specs.Arrays.{Arrays, textIn}
 use Rattle.index.specs.Entries.{indexCases}
 use Rattle.phrases.specs.Phrases.{stands}
-use Rattle.pages.specs.Pages
-use Rattle.pages.specs.Pages.{pageOver}
+use Rattle.pages.specs.Pages.{HitPage, pageOver}
 use Rattle.questions.specs.Answering.{phraseIn, phraseCases}
 use Rattle.listing.specs.declared.Listing.{Listing}
 use Rattle.listing.specs.declared.Page.{Page}
@@ -50,7 +49,7 @@ abbrev pub callPhrase : Call → List ℕ
 callPhrase call = phraseIn (call .words) (call .start) (call .len)
 
 -- the page over the state that a call is handed: of the places 0 to n of its text, the hits are those where its phrase stands
-unfoldable pub callPage : Call → Listing → Pages.Page
+unfoldable pub callPage : Call → Listing → HitPage
 callPage call state =
     pageOver (stands (callText call) (callPhrase call)) (length (callText call)) (length (call .lines)) (state .next) (state .finished)
 

@@ -13,8 +13,8 @@ use Rattle.base.specs.Answers.{front}
 use Rattle.base.proofs.Fronts.{length-front}
 use Rattle.base.proofs.Ranges.{filter-range-none, filter-range-ascends}
 use Rattle.pages.specs.Hits.{allHits}
-use Rattle.pages.specs.Pages.{Page, pending, pageOver}
-use Rattle.pages.specs.Runs.{Outcome, hitsOn, linesOn, ReportsEnd, outcomes, stateAfter, outcomeAfter, found, linesHad, AcceptedBring, Complete, IsPage, IsListing, EveryRunComplete}
+use Rattle.pages.specs.Pages.{HitPage, pending, pageOver}
+use Rattle.pages.specs.Runs.{Outcome, hitsOn, linesOn, ReportsEnd, outcomes, stateAfter, outcomeAfter, found, linesHad, AcceptedBring, CompleteRun, IsPage, IsListing, EveryRunComplete}
 use Rattle.base.proofs.Members.{mem-take}
 use Rattle.pages.proofs.Hits.{hits-from-start, is-hit, hit-is, last-among}
 use Rattle.pages.proofs.Pages.{page-found, page-more, page-rest, page-within}
@@ -58,7 +58,7 @@ module _ {State : Type 0} (next : State → ℕ) (finished : State → Bool) (P 
   -- a page takes as many as it has lines
   module _ (slice : List ℕ) (state : State) (o : Outcome State) (a : o .accepted ≡ true) (p : IsPage next finished P end slice state o) where
     -- the page that it is
-    abbrev the : Page
+    abbrev the : HitPage
     the = pageOver P end (length slice) (next state) (finished state)
 
     -- its hits fit the slice
@@ -225,7 +225,7 @@ module _ {Call State : Type 0} (answer : Call → State → Outcome State) (next
           record { accepted = a; noMore = enough a .1 (last-among P end (linesHad answer opening (before ++ call ∷ [])) q among none) }
 
     -- every clause
-    complete-run : Complete answer next lines Brings P end opening calls
+    complete-run : CompleteRun answer next lines Brings P end opening calls
     complete-run = record {
       firstHits = first-hits;
       ascending = ascends;

@@ -10,15 +10,15 @@ use lib.ListN.{length, take, drop, length-append, length-drop, drop-of-length-le
 use lib.Seq.{take-all, take-nil, drop-nil, take-at}
 use Rattle.base.proofs.Ranges.{length-filter-range}
 use Rattle.pages.specs.Hits.{hitsFrom, lastOr}
-use Rattle.pages.specs.Pages.{Page, pending, pageOver}
+use Rattle.pages.specs.Pages.{HitPage, pending, pageOver}
 use Rattle.pages.proofs.Hits.{hits-rest}
 
 -- a page that is full, with another hit after it
-abbrev pub fullPage : List ℕ → Page
+abbrev pub fullPage : List ℕ → HitPage
 fullPage found = record { found = found; more = true; next = suc (lastOr 0 found); finished = false }
 
 -- a page with which the hits run out
-abbrev pub endPage : ℕ → List ℕ → Page
+abbrev pub endPage : ℕ → List ℕ → HitPage
 endPage end found = record { found = found; more = false; next = end; finished = true }
 
 module _ (P : ℕ → Bool) (end lines next : ℕ) (finished : Bool) where

@@ -9,13 +9,13 @@ use native.Mathlib.Omega.{arith}
 use lib.ListN.{length, set}
 use Rattle.base.specs.Answers.{front}
 use Rattle.pages.specs.Hits.{hitsFrom}
-use Rattle.pages.specs.Pages.{Page, pageOver}
+use Rattle.pages.specs.Pages.{HitPage, pageOver}
 use Rattle.pages.proofs.Pages.{fullPage, endPage, page-full, page-last, page-finished}
 use Rattle.pages.proofs.Filling.{Filled, filled-none, filled-more, filled-length}
 use Rattle.pages.proofs.Along.{along, along-more, along-meets}
 
 -- what is returned and what is left in the slice, which was `entry`, is a page
-pub record Made (p : Page) (entry slice : List ℕ) (value : ℕ) (more : Bool) (next : ℕ) (finished : Bool) : Type 0 where
+pub record Made (p : HitPage) (entry slice : List ℕ) (value : ℕ) (more : Bool) (next : ℕ) (finished : Bool) : Type 0 where
   pub valueIs : value ≡ length (p .found)
   pub moreIs : more ≡ p .more
   pub nextIs : next ≡ p .next
@@ -23,12 +23,12 @@ pub record Made (p : Page) (entry slice : List ℕ) (value : ℕ) (more : Bool) 
   pub sliceIs : slice ≡ front (p .found) entry
 
 -- a filled slice, of a page that is full
-made-full : (p : Page) (entry found slice : List ℕ) (value last : ℕ) → Filled entry found slice value last → p ≡ fullPage found → Made p entry slice value true (last + 1) false
+made-full : (p : HitPage) (entry found slice : List ℕ) (value last : ℕ) → Filled entry found slice value last → p ≡ fullPage found → Made p entry slice value true (last + 1) false
 made-full p entry found slice value last f e =
     rw e (record { valueIs = f .valueIs; moreIs = refl; nextIs = add-one last ∙ ap suc (f .lastIs); finishedIs = refl; sliceIs = f .sliceIs })
 
 -- a filled slice, of a page with which the hits run out
-made-end : (p : Page) (entry found slice : List ℕ) (value last end : ℕ) → Filled entry found slice value last → p ≡ endPage end found → Made p entry slice value false end true
+made-end : (p : HitPage) (entry found slice : List ℕ) (value last end : ℕ) → Filled entry found slice value last → p ≡ endPage end found → Made p entry slice value false end true
 made-end p entry found slice value last end f e =
     rw e (record { valueIs = f .valueIs; moreIs = refl; nextIs = refl; finishedIs = refl; sliceIs = f .sliceIs })
 

@@ -7,7 +7,7 @@ use lib.ListN.{length, take}
 use Rattle.pages.specs.Hits.{hitsFrom, lastOr}
 
 -- what a page comes to: the hits that it writes, whether it reports "more", paper 01's term, and the state that it hands back
-pub record Page : Type 0 where
+pub record HitPage : Type 0 where
   pub found : List ℕ
   pub more : Bool
   pub next : ℕ
@@ -23,7 +23,7 @@ moreAfter P end lines next finished = ltb lines (length (pending P end next fini
 
 -- the page of so many lines over a state: it writes pending hits until it is full or they run out; if more follow, next is the last
 -- hit plus 1; otherwise the state is finished with next at the end, and a finished one comes back the same
-unfoldable pub pageOver : (ℕ → Bool) → ℕ → ℕ → ℕ → Bool → Page
+unfoldable pub pageOver : (ℕ → Bool) → ℕ → ℕ → ℕ → Bool → HitPage
 pageOver P end lines next finished =
     record {
       found = take lines (pending P end next finished);

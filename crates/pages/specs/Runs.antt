@@ -65,7 +65,7 @@ module _ {Call State : Type 0} (answer : Call → State → Outcome State) where
 
 -- a list of calls from an opening state is complete for the hits of P among the places 0 to the end; `next` is the next place of a
 -- state, `lines` what the slice of a call holds, and `Brings` what every accepted call brings
-pub record Complete {Call State : Type 0} (answer : Call → State → Outcome State) (next : State → ℕ) (lines : Call → List ℕ) (Brings : Call → Type 0)
+pub record CompleteRun {Call State : Type 0} (answer : Call → State → Outcome State) (next : State → ℕ) (lines : Call → List ℕ) (Brings : Call → Type 0)
     (P : ℕ → Bool) (end : ℕ) (opening : State) (calls : List Call)
     : Type 0 where
   -- found are the first hits, as many as the accepted pages have lines, or all hits if there are not so many
@@ -134,4 +134,4 @@ EveryRunComplete =
     (Brings : Call → Type 0) (Kept : State → Type 0) (P : ℕ → Bool) (end : ℕ) → IsListing answer next finished lines Brings Kept P end →
     (opening : State) → next opening ≡ 0 → finished opening ≡ false → Kept opening →
     (calls : List Call) → AcceptedBring answer Brings opening calls →
-    Complete answer next lines Brings P end opening calls
+    CompleteRun answer next lines Brings P end opening calls

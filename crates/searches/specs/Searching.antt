@@ -12,7 +12,7 @@ use Rattle.index.specs.declared.Shape.{Shape}
 use Rattle.index.specs.Arrays.{Arrays}
 use Rattle.words.specs.Words.{frequency}
 use Rattle.words.specs.Ready.{Ready}
-use Rattle.pages.specs.Pages
+use Rattle.pages.specs.Pages.{HitPage}
 use Rattle.searches.specs.declared.Written.{Written}
 
 -- the first byte of the codeword of each word
@@ -37,7 +37,7 @@ pub record Rarest (t phrase : List ℕ) (r : ℕ) : Type 0 where
   pub least : (i : ℕ) → i < length phrase → frequency t (getD phrase r 0) ≤ frequency t (getD phrase i 0)
 
 -- what a page over an unfinished state comes to, as it is handed on
-abbrev pub writtenOf : Pages.Page → Written
+abbrev pub writtenOf : HitPage → Written
 writtenOf p = record { count = length (p .found); more = p .more; next = p .next; finished = p .finished }
 
 -- a full page with another hit after it, and a page after which hits have run out in a text of n words

@@ -10,8 +10,7 @@ use Rattle.index.specs.Arrays.{Arrays, arrays, textIn}
 use Rattle.words.specs.Ready.{Checked}
 use Rattle.words.proofs.Parts.{accepted-checked, checked-most, checked-total}
 use Rattle.phrases.specs.Phrases.{stands}
-use Rattle.pages.specs.Pages
-use Rattle.pages.specs.Pages.{pageOver}
+use Rattle.pages.specs.Pages.{HitPage, pageOver}
 use Rattle.searches.specs.Searching.{writtenOf}
 use Rattle.questions.specs.Answering.{phraseIn}
 use Rattle.questions.proofs.Answered.{PhraseFits, phrase-fits, part-length}
@@ -99,7 +98,7 @@ returns c =
     rw (m, st .pre .2) in
     rw (c .accepted .ensures)
     (page-written (callAt st) (st .args .state) (passed st .answerIs) (c .before .before .before .write-page .result) _ (c .before .before .before .write-page .ensures .0 ∙ ap writtenOf e)
-    (c .before .before .before .write-page .ensures .1 ∙ ap (λ (x : Pages.Page). front (x .found) (st .args .lines .now)) e))
+    (c .before .before .before .write-page .ensures .1 ∙ ap (λ (x : HitPage). front (x .found) (st .args .lines .now)) e))
 
 pub written-page-spec : {M : Type 1} → statement M
 written-page-spec =

@@ -18,8 +18,7 @@ use Rattle.base.proofs.Lists.{all-at}
 use Rattle.phrases.specs.Phrases.{stands}
 use Rattle.phrases.specs.Anchors.{candidate}
 use Rattle.phrases.proofs.Anchors.{candidates-from, phrase-anchored}
-use Rattle.pages.specs.Pages
-use Rattle.pages.specs.Pages.{pageOver}
+use Rattle.pages.specs.Pages.{HitPage, pageOver}
 use Rattle.pages.proofs.Along.{along}
 use Rattle.pages.proofs.Filling.{Filled, filled-length}
 use Rattle.pages.proofs.Searching.{Made, search-starts, search-taken, search-passed, search-full, search-over}
@@ -31,7 +30,7 @@ use Rattle.searches.proofs.page_along.Statement.{statement}
 use Rattle.searches.proofs.page_along.Tie as tie
 
 -- what is returned and what the slice holds, as the contract says it
-written-result : (p : Pages.Page) (entry slice : List ℕ) (count : ℕ) (more : Bool) (next : ℕ) (finished : Bool) (r : Written)
+written-result : (p : HitPage) (entry slice : List ℕ) (count : ℕ) (more : Bool) (next : ℕ) (finished : Bool) (r : Written)
     → r ≡ record { count = count; more = more; next = next; finished = finished } → Made p entry slice count more next finished
     → (r ≡ writtenOf p) × (slice ≡ front (p .found) entry)
 written-result p entry slice count more next finished r e m = (rw (e, m .valueIs, m .moreIs, m .nextIs, m .finishedIs), m .sliceIs)
