@@ -13,9 +13,9 @@ use Rattle.directory.specs.Counters.{Directory}
 use Rattle.tree.specs.Nodes.{nodeCount}
 use Rattle.index.specs.declared.Shape.{Shape}
 use Rattle.index.specs.Arrays.{Arrays, passes}
-use Rattle.checking.specs.Tests.{nodesPass}
+use Rattle.node_checks.specs.Tests.{nodesPass}
 use Rattle.index.proofs.Passing.{passes-tests, tests-passes}
-use Rattle.checking.proofs.Tested.{good-pass, pass-good}
+use Rattle.node_checks.proofs.Tested.{good-pass, pass-good}
 
 module _ (s : ℕ) (within : Closing s) (shape : Shape) (fits : shape .vocabulary ≤ maxVocabulary s) (a : Arrays) where
   -- the nodes of arrays that pass do

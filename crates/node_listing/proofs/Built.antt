@@ -16,10 +16,10 @@ use Rattle.tree.specs.Nodes.{nodeCount, nodes}
 use Rattle.index.specs.declared.Shape.{Shape}
 use Rattle.index.specs.Arrays.{Arrays, indexOf}
 use Rattle.index.specs.Entries.{isShorter, buildAnswer, buildExit}
-use Rattle.building.specs.Slices.{tooShort}
+use Rattle.writing.specs.Slices.{tooShort}
 use Rattle.index.proofs.Refusals.{build-accepted, build-filled}
 use Rattle.index.proofs.Texts.{total-lengths, length-bytes, nodes-of-index, count-lengths}
-use Rattle.building.proofs.Builds.{short-is}
+use Rattle.writing.proofs.Builds.{short-is}
 use Rattle.node_lines.specs.Lines.{countsLine, nodeLines}
 use Rattle.node_listing.specs.Listing.{vocabularyOf, listedShape, maxStreamWords, maxStreamVocabulary}
 use Rattle.node_listing.proofs.Vocabulary.{below-vocabulary}

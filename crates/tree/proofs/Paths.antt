@@ -2,11 +2,12 @@
 use Prim.Native.Nat.{ℕ, zero, suc, _+_, _-_, _*_, _≤_, _<_}
 use mathlib.Core.Path.{_≡_, refl, sym, ap, ap₂, _∙_}
 use mathlib.Core.List.{List, [], _∷_, _++_, append-assoc, getLastD}
-use native.Mathlib.Nat.{div-le-self, mul-le-mul-right}
+use native.Mathlib.Nat.{div-eq-of-lt, div-le-self, mul-le-mul-right}
 use native.Mathlib.Omega.{arith}
 use Rattle.dense.specs.Code.{Closing, continuing, maxVocabulary, code, Word, closing, continued}
+use Rattle.dense.proofs.Numbers.{div-below}
 use Rattle.dense.proofs.Codewords.{code-word}
-use Rattle.tree.specs.Nodes.{child, parent, digit, nodeOf, closingByte, pathWithin, path}
+use Rattle.tree.specs.Nodes.{child, parent, digit, maxNodes, nodeOf, closingByte, pathWithin, path}
 use Rattle.tree.specs.Walks.{endNode, endByte}
 use Rattle.tree.proofs.Numbers.{child-suc, child-parent, child-digit, code-ends}
 
@@ -54,3 +55,7 @@ pub code-end : (s : ℕ) → Closing s → (i : ℕ) → i < maxVocabulary s →
 code-end s within i h =
     ap (λ (p : List ℕ). p ++ code s i) (sym (path-root s)) ∙ path-end s 0 (code s i) (code-word s within i h)
     ∙ ap₂ (λ (k b : ℕ). path s k ++ (b ∷ [])) (code-ends s within i h .0) (code-ends s within i h .1)
+
+-- two levels above a node of the third is the root
+pub two-up : (s : ℕ) → Closing s → (k : ℕ) → k < maxNodes s → 1 ≤ parent s k → parent s (parent s k) ≡ 0
+two-up s within k l h = div-eq-of-lt (omega (arith, div-below (continuing s) (1 + continuing s) (k - 1) (omega arith) (omega arith)))

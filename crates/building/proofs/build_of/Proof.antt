@@ -10,10 +10,10 @@ use Rattle.dense.specs.Code.{maxVocabulary}
 use Rattle.index.specs.Arrays.{arrays, indexOf}
 use Rattle.index.specs.Entries.{isShorter}
 use Rattle.index.specs.Exact.{WithinLimits, IsText}
-use Rattle.building.specs.Slices.{tooShort, Buildable}
+use Rattle.writing.specs.Slices.{tooShort, Buildable}
 use Rattle.index.proofs.Refusals.{limits-zero, vocabulary-outside, vocabulary-inside, blocks-outside, build-vocabulary, build-words, build-blocks, build-rank, build-short, build-refused}
 use Rattle.index.proofs.Texts.{stream-short}
-use Rattle.building.proofs.Builds.{build-done, short-is}
+use Rattle.writing.proofs.Builds.{build-done, short-is}
 use Rattle.building.proofs.build_of.Statement.{statement}
 use Rattle.building.proofs.build_of.Tie as tie
 

@@ -17,13 +17,13 @@ abbrev μ-loop : tie.MeasureT-loop
 μ-loop s stream found₀ at₀ found at = length stream - at
 
 -- with the part from the position on the count is that of the bytes before the stop
-counted : (c : tie.After-count-part Inv-loop μ-loop) → let a = c .before .before .before .before .before .before .args in c .before .before .before .before .loop .found + c .count-part .result ≡ closings (a .s) (take (c .before .before .least .result) (a .stream .now))
+counted : (c : tie.After-closings-in Inv-loop μ-loop) → let a = c .before .before .before .before .before .before .args in c .before .before .before .before .loop .found + c .closings-in .result ≡ closings (a .s) (take (c .before .before .least .result) (a .stream .now))
 counted c =
     let a = c .before .before .before .before .before .before .args in
     let loop = c .before .before .before .before .loop in
     let stop = c .before .before .least .result in
     let e : loop .at + (stop - loop .at) ≡ stop = omega (arith, c .before .before .least .ensures) in
-    rw (loop .inv .1, c .count-part .ensures, ← closings-part (a .s) (loop .at) (stop - loop .at) (a .stream .now), e)
+    rw (loop .inv .1, c .closings-in .ensures, ← closings-part (a .s) (loop .at) (stop - loop .at) (a .stream .now), e)
 
 loop-holds : tie.Need-loop-holds Inv-loop μ-loop
 unfolding closings
@@ -35,17 +35,17 @@ add-least c = search needs
 least-requires : tie.Need-least-requires Inv-loop μ-loop
 least-requires c κs = search needs
 
-sub-count-part : tie.Need-sub-count-part Inv-loop μ-loop
-sub-count-part c = search needs
+sub-closings-in : tie.Need-sub-closings-in Inv-loop μ-loop
+sub-closings-in c = search needs
 
-part-count-part-start : tie.Need-part-count-part-start Inv-loop μ-loop
-part-count-part-start c = search needs
+part-closings-in-start : tie.Need-part-closings-in-start Inv-loop μ-loop
+part-closings-in-start c = search needs
 
-part-count-part-end : tie.Need-part-count-part-end Inv-loop μ-loop
-part-count-part-end c = search needs
+part-closings-in-end : tie.Need-part-closings-in-end Inv-loop μ-loop
+part-closings-in-end c = search needs
 
-count-part-requires : tie.Need-count-part-requires Inv-loop μ-loop
-count-part-requires c κs = let start = c .before .before .before .before .before in
+closings-in-requires : tie.Need-closings-in-requires Inv-loop μ-loop
+closings-in-requires c κs = let start = c .before .before .before .before .before in
     let loop = c .before .before .before .loop in
     (start .pre, omega (arith, length-take (c .before .least .result - loop .at) (drop (loop .at) (start .args .stream .now)), c .before .least .ensures))
 
@@ -76,10 +76,10 @@ count-closings-spec =
     loop-holds
     add-least
     least-requires
-    sub-count-part
-    part-count-part-start
-    part-count-part-end
-    count-part-requires
+    sub-closings-in
+    part-closings-in-start
+    part-closings-in-end
+    closings-in-requires
     cast-found
     add-found
     loop-less

@@ -1,4 +1,4 @@
--- `checking::nodes_pass` meets its contract. The loop's invariant: the nodes passed pass, and the next starts where they end. Assumes nothing.
+-- `node_checks::nodes_pass` meets its contract. The loop's invariant: the nodes passed pass, and the next starts where they end. Assumes nothing.
 use Prim.Native.Nat.{ℕ, suc, _+_, _≤_, _-_}
 use mathlib.Core.Path.{_≡_, refl, sym, ap, _∙_}
 use mathlib.Core.Bool.{true}
@@ -12,10 +12,10 @@ use Rattle.base.specs.Lists.{allPass, rangeFrom, total, segments}
 use Rattle.base.proofs.Ranges.{pass-range-suc}
 use Rattle.base.proofs.Sums.{total-take-suc, total-take-whole}
 use Rattle.base.proofs.Segments.{segment-at}
-use Rattle.checking.specs.Tests.{nodePasses, nodesPass}
-use Rattle.checking.proofs.Tested.{node-fails}
-use Rattle.checking.proofs.nodes_pass.Statement.{statement}
-use Rattle.checking.proofs.nodes_pass.Tie as tie
+use Rattle.node_checks.specs.Tests.{nodePasses, nodesPass}
+use Rattle.node_checks.proofs.Tested.{node-fails}
+use Rattle.node_checks.proofs.nodes_pass.Statement.{statement}
+use Rattle.node_checks.proofs.nodes_pass.Tie as tie
 
 abbrev Inv-loop : tie.InvT-loop
 Inv-loop s shape lengths bytes superblocks blocks start₀ node₀ start node = (node ≤ length lengths) × (start ≡ total (take node lengths)) × (allPass (λ (k : ℕ). nodePasses s (shape .vocabulary) lengths k (getD (segments lengths bytes) k [])) (rangeFrom 0 node) ≡ true)

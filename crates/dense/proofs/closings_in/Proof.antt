@@ -1,4 +1,4 @@
--- `dense::count_part` meets its contract. The loop's invariant: the closing bytes passed are counted. Assumes nothing.
+-- `dense::closings_in` meets its contract. The loop's invariant: the closing bytes passed are counted. Assumes nothing.
 use Prim.Native.Nat.{_+_, _≤_, _<_, _-_}
 use mathlib.Core.Path.{refl, sym, ap, _∙_, _≡_}
 use mathlib.Core.Bool.{Bool, cond}
@@ -11,8 +11,8 @@ use lib.ListN.{take, length}
 use lib.Seq.{take-all}
 use Rattle.dense.specs.Streams.{closings}
 use Rattle.dense.proofs.Streams.{closings-more}
-use Rattle.dense.proofs.count_part.Statement.{statement}
-use Rattle.dense.proofs.count_part.Tie as tie
+use Rattle.dense.proofs.closings_in.Statement.{statement}
+use Rattle.dense.proofs.closings_in.Tie as tie
 
 abbrev Inv-loop : tie.InvT-loop
 Inv-loop s part least found₀ at₀ found at = (at ≤ length part) × (found ≤ at) × (found ≡ closings s (take at part))
@@ -55,8 +55,8 @@ loop-again c = let start = c .before .before .before .before in
 returns : tie.Need-returns Inv-loop μ-loop
 returns c = c .before .loop .inv .2 ∙ ap (closings (c .before .before .args .s)) (take-all (c .before .loop .at) (c .before .before .args .part .now) (omega arith))
 
-pub count-part-spec : {M : Type 1} → statement M
-count-part-spec =
+pub closings-in-spec : {M : Type 1} → statement M
+closings-in-spec =
     tie.close
     (tie.spec
     Inv-loop

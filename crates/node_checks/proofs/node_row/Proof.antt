@@ -1,9 +1,9 @@
--- `checking::node_row` meets its contract: both ways count the bytes of the part. Assumes nothing.
+-- `node_checks::node_row` meets its contract: both ways count the bytes of the part. Assumes nothing.
 use native.Mathlib.Omega.{arith}
 use Rattle.directory.proofs.Rows.{block-most}
 use borrow.Author.Needs.{needs}
-use Rattle.checking.proofs.node_row.Statement.{statement}
-use Rattle.checking.proofs.node_row.Tie as tie
+use Rattle.node_checks.proofs.node_row.Statement.{statement}
+use Rattle.node_checks.proofs.node_row.Tie as tie
 
 sub-if1 : tie.Need-sub-if1
 sub-if1 c = search needs

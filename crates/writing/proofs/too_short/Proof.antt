@@ -1,11 +1,11 @@
--- `building::too_short` meets its contract: the four tests are those of the definition. Assumes nothing.
+-- `writing::too_short` meets its contract: the four tests are those of the definition. Assumes nothing.
 use Prim.Native.Nat.{_*_}
 use native.Mathlib.Nat.{mul-pos, div-le-self}
 use native.Mathlib.Omega.{arith}
 use borrow.Author.Needs.{needs}
-use Rattle.building.specs.Slices.{tooShort}
-use Rattle.building.proofs.too_short.Statement.{statement}
-use Rattle.building.proofs.too_short.Tie as tie
+use Rattle.writing.specs.Slices.{tooShort}
+use Rattle.writing.proofs.too_short.Statement.{statement}
+use Rattle.writing.proofs.too_short.Tie as tie
 
 node-count-requires : tie.Need-node-count-requires
 node-count-requires c κs = search needs

@@ -21,7 +21,7 @@ use Rattle.directory.specs.Counters.{row}
 use Rattle.directory.proofs.Rows.{row-length, row-at}
 use Rattle.tree.specs.Nodes.{child, nodeCount, rankIn}
 use Rattle.tree.specs.Walks.{Good}
-use Rattle.checking.specs.Tests.{valueTest, nodePasses, nodesPass}
+use Rattle.node_checks.specs.Tests.{valueTest, nodePasses, nodesPass}
 
 -- ---- histograms
 

@@ -1,4 +1,4 @@
--- `checking::node_passes` meets its contract. The loop's invariant: the values passed may stand as often as they do. Assumes nothing.
+-- `node_checks::node_passes` meets its contract. The loop's invariant: the values passed may stand as often as they do. Assumes nothing.
 use Prim.Native.Nat.{ℕ, _≤_, _-_}
 use mathlib.Core.Path.{_≡_, refl, sym, ap, _∙_}
 use mathlib.Core.Bool.{true}
@@ -9,10 +9,10 @@ use lib.ListN.{getD, take, drop}
 use Rattle.base.specs.Lists.{allPass, rangeFrom, countOf}
 use Rattle.base.proofs.Ranges.{pass-range-suc}
 use Rattle.directory.proofs.Rows.{row-at}
-use Rattle.checking.specs.Tests.{valueTest, nodePasses}
-use Rattle.checking.proofs.Tested.{value-fails}
-use Rattle.checking.proofs.node_passes.Statement.{statement}
-use Rattle.checking.proofs.node_passes.Tie as tie
+use Rattle.node_checks.specs.Tests.{valueTest, nodePasses}
+use Rattle.node_checks.proofs.Tested.{value-fails}
+use Rattle.node_checks.proofs.node_passes.Statement.{statement}
+use Rattle.node_checks.proofs.node_passes.Tie as tie
 
 abbrev Inv-loop : tie.InvT-loop
 Inv-loop s lengths bytes superblocks blocks node start end counts vocabulary value₀ value = (value ≤ 256) × (allPass (λ (e : ℕ). valueTest s vocabulary lengths node e (countOf e (take (end - start) (drop start bytes)))) (rangeFrom 0 value) ≡ true)

@@ -1,10 +1,10 @@
--- `building::write_index` meets its contract: nodes and counters go to the fronts of the slices. Assumes nothing.
+-- `writing::write_index` meets its contract: nodes and counters go to the fronts of the slices. Assumes nothing.
 use mathlib.Core.Path.{sym}
 use borrow.Author.Needs.{needs}
 use lib.Seq.{length-take-le}
-use Rattle.building.proofs.Builds.{lengths-room, bytes-room, nodes-fit, first-room, first-size, counters-fit, index-written}
-use Rattle.building.proofs.write_index.Statement.{statement}
-use Rattle.building.proofs.write_index.Tie as tie
+use Rattle.writing.proofs.Builds.{lengths-room, bytes-room, nodes-fit, first-room, first-size, counters-fit, index-written}
+use Rattle.writing.proofs.write_index.Statement.{statement}
+use Rattle.writing.proofs.write_index.Tie as tie
 
 node-count-requires : tie.Need-node-count-requires
 node-count-requires c κs = search needs

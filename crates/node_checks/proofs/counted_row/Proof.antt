@@ -1,4 +1,4 @@
--- `checking::counted_row` meets its contract. The loop's invariant: the counts passed are those of the part. Assumes nothing.
+-- `node_checks::counted_row` meets its contract. The loop's invariant: the counts passed are those of the part. Assumes nothing.
 use Prim.Native.Nat.{ℕ, _+_, _-_, _≤_, _<_}
 use mathlib.Core.Path.{_≡_, refl, ap, _∙_}
 use mathlib.Core.List.{List}
@@ -11,8 +11,8 @@ use Rattle.base.proofs.Counts.{count-part, count-take-most}
 use Rattle.base.proofs.Fronts.{set-below}
 use Rattle.base.proofs.Ranges.{map-range-is}
 use Rattle.directory.specs.Counters.{row}
-use Rattle.checking.proofs.counted_row.Statement.{statement}
-use Rattle.checking.proofs.counted_row.Tie as tie
+use Rattle.node_checks.proofs.counted_row.Statement.{statement}
+use Rattle.node_checks.proofs.counted_row.Tie as tie
 
 abbrev Inv-loop : tie.InvT-loop
 Inv-loop bytes superblocks blocks start end counts₀ block per value₀ counts value =

@@ -21,7 +21,7 @@ use Rattle.index.specs.Arrays.{Arrays, arrays, bytesOf, lengthsOf, indexOf}
 use Rattle.index.specs.Entries.{isShorter, buildAnswer, buildExit}
 use Rattle.index.specs.Exact.{WithinLimits, IsText}
 use Rattle.filling.specs.Filling.{firstNodes, nodeLengths, InNodes}
-use Rattle.building.specs.Slices.{tooShort, Buildable, fronts}
+use Rattle.writing.specs.Slices.{tooShort, Buildable, fronts}
 use Rattle.index.proofs.Texts.{total-lengths, length-bytes, index-superblocks, index-blocks, count-lengths, count-bytes, stream-short, count-superblocks, count-blocks}
 use Rattle.index.proofs.Refusals.{build-accepted, build-filled}
 

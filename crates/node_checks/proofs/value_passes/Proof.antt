@@ -1,4 +1,4 @@
--- `checking::value_passes` meets its contract, by the kind of the value. Assumes nothing.
+-- `node_checks::value_passes` meets its contract, by the kind of the value. Assumes nothing.
 use Prim.Native.Nat.{_≤_, _*_}
 use mathlib.Core.Path.{sym, ap, _∙_}
 use mathlib.Core.Bool.{Bool, _||_}
@@ -11,9 +11,9 @@ use lib.ListN.{getD, List·getD-eq-default}
 use Rattle.base.proofs.Tests.{or-left}
 use Rattle.tree.specs.Nodes.{rankIn}
 use Rattle.tree.proofs.Numbers.{levels-most}
-use Rattle.checking.proofs.Tested.{value-continuing, value-closing}
-use Rattle.checking.proofs.value_passes.Statement.{statement}
-use Rattle.checking.proofs.value_passes.Tie as tie
+use Rattle.node_checks.proofs.Tested.{value-continuing, value-closing}
+use Rattle.node_checks.proofs.value_passes.Statement.{statement}
+use Rattle.node_checks.proofs.value_passes.Tie as tie
 
 -- the first rank of a node is a small number
 small-rank : (c : tie.Else2) → c .before .before .before .args .s * c .before .before .before .args .node ≤ 255 * 65281

@@ -1,4 +1,4 @@
--- `checking::histogram` meets its contract. The loop's invariant: the counters are those of the bytes passed. Assumes nothing.
+-- `node_checks::histogram` meets its contract. The loop's invariant: the counters are those of the bytes passed. Assumes nothing.
 use Prim.Native.Nat.{ℕ, _+_, _≤_, _<_, _-_}
 use mathlib.Core.List.{List}
 use mathlib.Core.Path.{_≡_, sym, ap, _∙_}
@@ -9,9 +9,9 @@ use lib.Seq.{take-all}
 use Rattle.base.proofs.Counts.{count-take-most}
 use Rattle.directory.specs.Counters.{row}
 use Rattle.directory.proofs.Rows.{row-at, row-none}
-use Rattle.checking.proofs.Tested.{row-more}
-use Rattle.checking.proofs.histogram.Statement.{statement}
-use Rattle.checking.proofs.histogram.Tie as tie
+use Rattle.node_checks.proofs.Tested.{row-more}
+use Rattle.node_checks.proofs.histogram.Statement.{statement}
+use Rattle.node_checks.proofs.histogram.Tie as tie
 
 abbrev Inv-loop : tie.InvT-loop
 Inv-loop part counts₀ i₀ counts i = (i ≤ length part) × (counts ≡ row (take i part))
