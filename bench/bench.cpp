@@ -404,8 +404,7 @@ int main(int count, char **arguments) {
     const bool given = count > 2;
     std::printf("| words | measured | engine, ms | beside | its time, ms | ratio |\n|---|---|---|---|---|---|\n");
     for (size_t n : {1000000, 4000000, 16000000}) {
-        const uint32_t usual = n <= 2000000 ? 512 : 1024;
-        measure(n, given ? std::atoi(arguments[1]) : usual, given ? std::atoi(arguments[2]) : 8, !given);
+        measure(n, given ? std::atoi(arguments[1]) : 1024, given ? std::atoi(arguments[2]) : 8, !given);
     }
     plot("times.svg");
 }
