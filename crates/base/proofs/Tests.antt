@@ -52,6 +52,10 @@ pub and-right : (a b : Bool) → a && b ≡ true → b ≡ true
 and-right true b e = e
 and-right false b e = absurd (false≢true e)
 
+pub and-never : (a : Bool) → a && false ≡ false
+and-never true = refl
+and-never false = refl
+
 pub and-true : (a b : Bool) → a ≡ true → b ≡ true → a && b ≡ true
 and-true a b p q = ap₂ _&&_ p q
 

@@ -8,15 +8,11 @@ use borrow.Author.Tests.{eq-eqb, ne-eqb, eqb-true, eqb-false, not-true}
 use lib.Dec.{eqb}
 use lib.ListN.{length, getD}
 use Rattle.base.specs.Lists.{allPass, filterBy, countOf, consFirst, cutAfter}
-use Rattle.base.proofs.Tests.{same-or-not, cond-same, cond-other, and-left, and-right, and-true}
+use Rattle.base.proofs.Tests.{same-or-not, cond-same, cond-other, and-left, and-right, and-never, and-true}
 use Rattle.lexicon.proofs.Members.{list-rank-at}
 use Rattle.lexicon.specs.Letters.{letterIn, keeps, lineFeed}
 use Rattle.lexicon.specs.Laws.{WordListsExact}
 use Rattle.lexicon.specs.Lexicon.{listSize, listWords, isClosed, distinct, isSpelling, isSpelled, isWritten, isList}
-
-pub and-never : (a : Bool) → a && false ≡ false
-and-never true = refl
-and-never false = refl
 
 -- a closing byte ends an empty word; another byte belongs to the first word
 pub list-closing : (x : ℕ) (xs : List ℕ) → eqb x lineFeed ≡ true → listWords (x ∷ xs) ≡ [] ∷ listWords xs

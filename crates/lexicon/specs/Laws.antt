@@ -37,11 +37,12 @@ pub record LongestRuns (table text : List ℕ) : Type 0 where
       (p : ℕ) → p < length text → All (λ (w : TextWord). (p < w .offset) ⊎ (wordEnd w ≤ p)) (textWords table text) →
       letterIn table (getD text p 0) ≡ 0
 
--- Statement: a list that keeps the rules gives V words, and the word number i has the rank i.
+-- a list gives V words, and the word number i has the rank i
 pub record WordListExact (list : List ℕ) : Type 0 where
   pub sized : length (listWords list) ≡ listSize list
   pub ranked : (i : ℕ) → i < listSize list → listRank (listWords list) (getD (listWords list) i []) ≡ i
 
+-- Statement: of every list that keeps the rules, with any table.
 abbrev pub WordListsExact : Type 0
 WordListsExact = (table list : List ℕ) → isList table list ≡ true → WordListExact list
 

@@ -18,6 +18,7 @@ pub record TextWord : Type 0 where
   pub offset : ℕ
   pub spelling : List ℕ
 
+-- a word of a plain text, by its offset and its folded bytes
 abbrev pub word : ℕ → List ℕ → TextWord
 word i xs = record { offset = i; spelling = xs }
 

@@ -9,10 +9,10 @@ use borrow.Author.Tests.{eq-eqb, ne-eqb, eqb-true, lt-ltb}
 use lib.Dec.{eqb, ltb}
 use lib.ListN.{length, drop, getD, drop-of-length-le}
 use Rattle.base.specs.Lists.{All, allPass, filterBy, consFirst}
-use Rattle.base.proofs.Tests.{cond-same, cond-other, and-left, and-right}
+use Rattle.base.proofs.Tests.{cond-same, cond-other, and-left, and-right, and-never}
 use Rattle.base.proofs.Lists.{all-of-pass, all-imp}
 use Rattle.lexicon.proofs.Tables.{table-closing}
-use Rattle.lexicon.proofs.WordLists.{and-never, list-closing, list-letter, closed-behind, spelling-kept, spelling-letter}
+use Rattle.lexicon.proofs.WordLists.{list-closing, list-letter, closed-behind, spelling-kept, spelling-letter}
 use Rattle.lexicon.specs.Letters.{letterIn, lineFeed, isTable}
 use Rattle.lexicon.specs.Lexicon.{listWords, isClosed, isSpelling, isSpelled, isWritten}
 use Rattle.lexicon.specs.Reading.{TextWord, word, extended, wordsFrom, textWords}
@@ -144,8 +144,8 @@ module _ (table : List ℕ) (rule : isTable table ≡ true) where
   closing-separates : (x : ℕ) → x ≡ lineFeed → letterIn table x ≡ 0
   closing-separates x q = rw q (table-closing table rule)
 
-  apart : (x : ℕ) → isSpelling table x ≡ true → eqb x lineFeed ≡ false
-  apart x s = ne-eqb x lineFeed (λ q. spelling-letter table x s (closing-separates x q))
+  not-closing : (x : ℕ) → isSpelling table x ≡ true → eqb x lineFeed ≡ false
+  not-closing x s = ne-eqb x lineFeed (λ q. spelling-letter table x s (closing-separates x q))
 
   -- the words of such bytes as a text are the words of the list that are not empty
   pub text-of-list : (i : ℕ) (xs : List ℕ) → All (ListByte table) xs → map (λ (w : TextWord). w .spelling) (wordsFrom table i xs) ≡ filterBy nonEmpty (listWords xs)
@@ -161,7 +161,7 @@ module _ (table : List ℕ) (rule : isTable table ≡ true) where
       go [] (inr s) a ih =
           ap (map (λ (w : TextWord). w .spelling)) (words-more table i x [] (spelling-letter table x s))
           ∙ ap (λ (y : ℕ). (y ∷ []) ∷ []) (spelling-kept table x s)
-          ∙ ap (filterBy nonEmpty) (sym (list-letter x [] (apart x s)))
+          ∙ ap (filterBy nonEmpty) (sym (list-letter x [] (not-closing x s)))
       go (y ∷ ys) (inr s) (inl q, a) ih =
           ap (map (λ (w : TextWord). w .spelling))
           (words-more table i x (y ∷ ys) (spelling-letter table x s)
@@ -170,14 +170,14 @@ module _ (table : List ℕ) (rule : isTable table ≡ true) where
           ∙ ap (λ (ws : List TextWord). word i (letterIn table x ∷ []) ∷ ws) (sym (words-skip table (suc i) y ys (closing-separates y q))))
           ∙ ap (λ (ls : List (List ℕ)). (letterIn table x ∷ []) ∷ ls) (ih ∙ ap (filterBy nonEmpty) (list-closing y ys (eq-eqb y lineFeed q)))
           ∙ ap (λ (z : ℕ). (z ∷ []) ∷ filterBy nonEmpty (listWords ys)) (spelling-kept table x s)
-          ∙ ap (filterBy nonEmpty) (sym (list-letter x (y ∷ ys) (apart x s) ∙ ap (consFirst x) (list-closing y ys (eq-eqb y lineFeed q))))
+          ∙ ap (filterBy nonEmpty) (sym (list-letter x (y ∷ ys) (not-closing x s) ∙ ap (consFirst x) (list-closing y ys (eq-eqb y lineFeed q))))
       go (y ∷ ys) (inr s) (inr r, a) ih =
           ap (map (λ (w : TextWord). w .spelling)) (words-more table i x (y ∷ ys) (spelling-letter table x s) ∙ ap (extended i (letterIn table x)) run-of-y)
           ∙ ap (map (λ (w : TextWord). w .spelling)) (cond-same _ _ (suc i) (suc i) refl)
-          ∙ ap (consFirst (letterIn table x)) (ap (map (λ (w : TextWord). w .spelling)) (sym run-of-y) ∙ ih ∙ ap (filterBy nonEmpty) (list-letter y ys (apart y r)))
+          ∙ ap (consFirst (letterIn table x)) (ap (map (λ (w : TextWord). w .spelling)) (sym run-of-y) ∙ ih ∙ ap (filterBy nonEmpty) (list-letter y ys (not-closing y r)))
           ∙ ap (λ (z : ℕ). consFirst z (filterBy nonEmpty (consFirst y (listWords ys)))) (spelling-kept table x s)
           ∙ both (listWords ys)
-          ∙ ap (filterBy nonEmpty) (sym (list-letter x (y ∷ ys) (apart x s) ∙ ap (consFirst x) (list-letter y ys (apart y r))))
+          ∙ ap (filterBy nonEmpty) (sym (list-letter x (y ∷ ys) (not-closing x s) ∙ ap (consFirst x) (list-letter y ys (not-closing y r))))
         where
           run-of-y : wordsFrom table (suc i) (y ∷ ys) ≡ word (suc i) (run table (y ∷ ys)) ∷ wordsFrom table (suc i + length (run table (y ∷ ys))) (drop (length (run table (y ∷ ys))) (y ∷ ys))
           run-of-y = words-run table (suc i) y ys (spelling-letter table y r)

@@ -26,11 +26,11 @@ take-whole k xs e = omega (arith, ap length e, length-take k xs)
 
 -- only an accepted page has hits
 hits-accepted : {State : Type 0} (o : Outcome State) {q : ℕ} → List·Memᴰ q (hitsOn o) → o .accepted ≡ true
-hits-accepted o {q} m = by (o .accepted) m
+hits-accepted o {q} m = by (o .accepted) _ m
   where
-    by : (b : Bool) → List·Memᴰ q (cond b (take (o .value) (o .slice)) []) → b ≡ true
-    by true m = refl
-    by false m = absurd (List·Memᴰ·not-nil m)
+    by : (b : Bool) (xs : List ℕ) → List·Memᴰ q (cond b xs []) → b ≡ true
+    by true xs m = refl
+    by false xs m = absurd (List·Memᴰ·not-nil m)
 
 -- ---- one call
 

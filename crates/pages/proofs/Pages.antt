@@ -79,6 +79,6 @@ unfolding pageOver
 page-last P end lines next ws e l = rw (e, le-ltb lines (length ws) l, take-all lines ws l)
 
 -- the page over a finished state
-pub page-finished : (P : ℕ → Bool) (end lines next : ℕ) → pageOver P end lines next true ≡ endPage next []
+pub page-over-finished : (P : ℕ → Bool) (end lines next : ℕ) → pageOver P end lines next true ≡ endPage next []
 unfolding pageOver
-page-finished P end lines next = rw (le-ltb lines 0 (omega arith), take-nil lines)
+page-over-finished P end lines next = rw (le-ltb lines 0 (omega arith), take-nil lines)

@@ -10,7 +10,7 @@ use lib.ListN.{length, set}
 use Rattle.base.specs.Answers.{front}
 use Rattle.pages.specs.Hits.{hitsFrom}
 use Rattle.pages.specs.Pages.{HitPage, pageOver}
-use Rattle.pages.proofs.Pages.{fullPage, endPage, page-full, page-last, page-finished}
+use Rattle.pages.proofs.Pages.{fullPage, endPage, page-full, page-last, page-over-finished}
 use Rattle.pages.proofs.Filling.{Filled, filled-none, filled-more, filled-length}
 use Rattle.pages.proofs.Along.{along, along-more, along-meets}
 
@@ -34,7 +34,7 @@ made-end p entry found slice value last end f e =
 
 -- over a finished state nothing is written, and the state comes back the same
 pub made-finished : (P : ℕ → Bool) (end next : ℕ) (entry : List ℕ) → Made (pageOver P end (length entry) next true) entry entry 0 false next true
-made-finished P end next entry = made-end (pageOver P end (length entry) next true) entry [] entry 0 0 next (filled-none entry) (page-finished P end (length entry) next)
+made-finished P end next entry = made-end (pageOver P end (length entry) next true) entry [] entry 0 0 next (filled-none entry) (page-over-finished P end (length entry) next)
 
 -- at the first candidate nothing is written
 pub search-starts : (P : ℕ → Bool) (candidate : ℕ → ℕ) (first : ℕ) (entry : List ℕ) → Filled entry (along P candidate first (first - first)) entry 0 0

@@ -110,9 +110,9 @@ module _ (table text : List ℕ) where
       }
 
   -- the next word begins behind the separator that ends this one
-  apart : (at : ℕ) → WordBegins table text at → at < length text → startFrom table text (at + length (runAt table text at)) < length text
+  next-apart : (at : ℕ) → WordBegins table text at → at < length text → startFrom table text (at + length (runAt table text at)) < length text
       → at + length (runAt table text at) < startFrom table text (at + length (runAt table text at))
-  apart at b h l = go (below-or-not e (startFrom table text e))
+  next-apart at b h l = go (below-or-not e (startFrom table text e))
     where
       e : ℕ
       e = at + length (runAt table text at)
@@ -127,7 +127,7 @@ module _ (table text : List ℕ) where
           absurd (n .begun .letter l (ap (λ (k : ℕ). letterIn table (getD text k 0)) q ∙ word-behind at (b .inside) (omega arith)))
 
   before-next : (at : ℕ) → WordBegins table text at → at < length text → Before (startFrom table text (at + length (runAt table text at)))
-  before-next at b h l p q = between (at + length (runAt table text at)) p (omega (arith, apart at b h l)) (omega arith)
+  before-next at b h l p q = between (at + length (runAt table text at)) p (omega (arith, next-apart at b h l)) (omega arith)
 
   -- all words from a position on
   runs-from : (n at : ℕ) → length (wordsAt table text at) ≡ n → WordBegins table text at → Before at → All (IsRun table text) (wordsAt table text at)
@@ -152,7 +152,7 @@ module _ (table text : List ℕ) where
       let h : at < length text = some-left table text at (omega arith) in
       let x = next table text at b h in
       let m : ℕ = startFrom table text (at + length (runAt table text at)) in
-      rw (x .words) (later at m (apart at b h), order-from n m (omega (arith, ap length (x .words))) (x .begun))
+      rw (x .words) (later at m (next-apart at b h), order-from n m (omega (arith, ap length (x .words))) (x .begun))
     where
       later : (at m : ℕ) → (m < length text → at + length (runAt table text at) < m) → All (λ (v : TextWord). at + length (runAt table text at) < v .offset) (wordsAt table text m)
       later at m a = go (below-or-not m (length text))
