@@ -56,7 +56,7 @@ fn passes(
     }
     let block = shape.block;
     let per = shape.per_superblock;
-    if !counters::verify(bytes, superblocks, blocks, block, per) {
+    if !counter_checks::verify(bytes, superblocks, blocks, block, per) {
         return false;
     }
     node_checks::nodes_pass(s, shape, lengths, bytes, superblocks, blocks)

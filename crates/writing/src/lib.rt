@@ -25,8 +25,8 @@ pub fn too_short(
     ensures { λ r. ⌜ r ≡ tooShort s shape needed (arrays (now (lengths .entry)) (now (bytes .entry)) (now (superblocks .entry)) (now (blocks .entry))) ⌝ }
 {
     let nodes = tree::node_count(s, shape.vocabulary);
-    let superblock_rows = counters::row_count(needed, shape.block * shape.per_superblock);
-    let block_rows = counters::row_count(needed, shape.block);
+    let superblock_rows = tallies::row_count(needed, shape.block * shape.per_superblock);
+    let block_rows = tallies::row_count(needed, shape.block);
     (lengths.len() < nodes)
         | (bytes.len() < needed)
         | (superblocks.len() < superblock_rows * 256)

@@ -9,9 +9,9 @@ use Rattle.base.specs.Answers.{front}
 use Rattle.directory.specs.Counters.{superblockRow, blockRow, superblockRows, blockRows}
 use Rattle.directory.specs.Tables.{firstRows}
 use Rattle.directory.proofs.Rows.{superblock-row-length, block-row-length, superblock-some, superblock-rows-length, block-rows-length}
-use Rattle.counters.specs.Tallies.{endOf}
-use Rattle.counters.proofs.Tables.{rows-length, rows-put, rows-over, begins-none, begins-front, front-begins}
-use Rattle.counters.proofs.Turns.{Totalled, rowsTo, totalled-start, totalled-length, totalled-reached, totalled-next, rows-none, rows-next, rows-all}
+use Rattle.tallies.specs.Tallies.{rowsEnd}
+use Rattle.tallies.proofs.Tables.{rows-length, rows-put, rows-over, begins-none, begins-front, front-begins}
+use Rattle.tallies.proofs.Turns.{Totalled, rowsTo, totalled-start, totalled-length, totalled-reached, totalled-next, rows-none, rows-next, rows-all}
 use Rattle.counters.proofs.fill.Statement.{statement}
 use Rattle.counters.proofs.fill.Tie as tie
 
@@ -86,7 +86,7 @@ loop-again c =
     let a = s .args in
     let l = i .before .loop in
     let g : ℕ → List ℕ = blockRow (a .block) (a .per) (a .bytes .now) in
-    let end : ℕ = endOf (a .block) (a .per) (length (a .bytes .now)) (l .superblock) in (
+    let end : ℕ = rowsEnd (a .block) (a .per) (length (a .bytes .now)) (l .superblock) in (
       totalled-next (s .pre .0) (l .inv .0) (i .loop-test .taken) _ (c .before .before .fill-superblock .ensures .1),
       c .before .before .before .before .before .before .before .put-superblock .ensures
           ∙ rows-put (superblockRow (a .block) (a .per) (a .bytes .now)) (superblock-row-length (a .block) (a .per) (a .bytes .now)) (l .superblock) (a .superblocks .now) (l .superblocks) (l .totals) (l .inv .1) (l .inv .0 .total),

@@ -8,9 +8,9 @@ use Rattle.base.specs.Answers.{front}
 use Rattle.directory.specs.Counters.{blockRow}
 use Rattle.directory.specs.Tables.{firstRows}
 use Rattle.directory.proofs.Rows.{block-row-length}
-use Rattle.counters.specs.Tallies.{counters}
-use Rattle.counters.proofs.Tables.{rows-length, rows-put, front-begins}
-use Rattle.counters.proofs.Turns.{Tallied, end-asks, tallied-start, tallied-below, tallied-row, tally-asks, tallied-next, ended, total-next, add-asks}
+use Rattle.tallies.specs.Tallies.{counters}
+use Rattle.tallies.proofs.Tables.{rows-length, rows-put, front-begins}
+use Rattle.tallies.proofs.Turns.{Tallied, end-asks, tallied-start, tallied-below, tallied-row, tally-asks, tallied-next, ended, total-next, add-asks}
 use Rattle.counters.proofs.fill_superblock.Statement.{statement}
 use Rattle.counters.proofs.fill_superblock.Tie as tie
 

@@ -3,9 +3,9 @@ use Prim.Native.Nat.{_-_}
 use mathlib.Core.Path.{sym}
 use native.Mathlib.Omega.{arith}
 use borrow.Author.Needs.{needs}
-use Rattle.counters.specs.Tallies.{counters}
-use Rattle.counters.proofs.Sums.{counters-length, counters-at, counter-fits}
-use Rattle.counters.proofs.Tables.{Put, put-start, put-length, put-next, put-end}
+use Rattle.tallies.specs.Tallies.{counters}
+use Rattle.tallies.proofs.Sums.{counters-length, counters-at, counter-fits}
+use Rattle.tallies.proofs.Tables.{Put, put-start, put-length, put-next, put-end}
 use Rattle.counters.proofs.put_block.Statement.{statement}
 use Rattle.counters.proofs.put_block.Tie as tie
 

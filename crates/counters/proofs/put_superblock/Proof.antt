@@ -3,7 +3,7 @@ use Prim.Native.Nat.{_-_}
 use mathlib.Core.Path.{refl}
 use native.Mathlib.Omega.{arith}
 use borrow.Author.Needs.{needs}
-use Rattle.counters.proofs.Tables.{Put, put-start, put-length, put-next, put-end}
+use Rattle.tallies.proofs.Tables.{Put, put-start, put-length, put-next, put-end}
 use Rattle.counters.proofs.put_superblock.Statement.{statement}
 use Rattle.counters.proofs.put_superblock.Tie as tie
 

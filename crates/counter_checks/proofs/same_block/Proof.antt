@@ -1,13 +1,13 @@
--- `counters::same_block` meets its contract. The loop's invariant: equal is whether the first x numbers of the row are those of the counters. Assumes nothing.
+-- `counter_checks::same_block` meets its contract. The loop's invariant: equal is whether the first x numbers of the row are those of the counters. Assumes nothing.
 use Prim.Native.Nat.{_-_}
 use mathlib.Core.Path.{sym}
 use native.Mathlib.Omega.{arith}
 use borrow.Author.Needs.{needs}
-use Rattle.counters.specs.Tallies.{counters}
-use Rattle.counters.proofs.Sums.{counters-length, counters-at, counter-fits}
-use Rattle.counters.proofs.Tables.{Compared, compared-start, compared-next, compared-end}
-use Rattle.counters.proofs.same_block.Statement.{statement}
-use Rattle.counters.proofs.same_block.Tie as tie
+use Rattle.tallies.specs.Tallies.{counters}
+use Rattle.tallies.proofs.Sums.{counters-length, counters-at, counter-fits}
+use Rattle.tallies.proofs.Tables.{Compared, compared-start, compared-next, compared-end}
+use Rattle.counter_checks.proofs.same_block.Statement.{statement}
+use Rattle.counter_checks.proofs.same_block.Tie as tie
 
 abbrev Inv-loop : tie.InvT-loop
 Inv-loop blocks row lanes at equal₀ x₀ equal x = Compared blocks row (counters lanes) at equal x

@@ -1,11 +1,11 @@
--- `counters::same_superblock` meets its contract. The loop's invariant: equal is whether the first x numbers of the row are those of the totals. Assumes nothing.
+-- `counter_checks::same_superblock` meets its contract. The loop's invariant: equal is whether the first x numbers of the row are those of the totals. Assumes nothing.
 use Prim.Native.Nat.{_-_}
 use mathlib.Core.Path.{refl}
 use native.Mathlib.Omega.{arith}
 use borrow.Author.Needs.{needs}
-use Rattle.counters.proofs.Tables.{Compared, compared-start, compared-next, compared-end}
-use Rattle.counters.proofs.same_superblock.Statement.{statement}
-use Rattle.counters.proofs.same_superblock.Tie as tie
+use Rattle.tallies.proofs.Tables.{Compared, compared-start, compared-next, compared-end}
+use Rattle.counter_checks.proofs.same_superblock.Statement.{statement}
+use Rattle.counter_checks.proofs.same_superblock.Tie as tie
 
 abbrev Inv-loop : tie.InvT-loop
 Inv-loop superblocks row totals at equal₀ x₀ equal x = Compared superblocks row totals at equal x

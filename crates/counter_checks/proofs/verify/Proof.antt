@@ -1,4 +1,4 @@
--- `counters::verify` meets its contract. The loop's invariant: the totals are the superblock's row, and all rows before the superblock are right. Assumes nothing.
+-- `counter_checks::verify` meets its contract. The loop's invariant: the totals are the superblock's row, and all rows before the superblock are right. Assumes nothing.
 use Prim.Native.Nat.{suc, _*_, _/_, _-_}
 use mathlib.Core.Path.{_≡_, ap, sym, _∙_}
 use native.Mathlib.Nat.{div-le-self}
@@ -8,16 +8,16 @@ use borrow.Author.Tests.{not-true, not-false}
 use lib.ListN.{length}
 use Rattle.directory.specs.Counters.{superblockRow, blockRow, superblockRows, blockRows}
 use Rattle.directory.proofs.Rows.{superblock-row-length, block-row-length, superblock-some, superblock-rows-length, block-rows-length, is-directory, not-directory}
-use Rattle.counters.specs.Tallies.{Begins}
-use Rattle.counters.proofs.Tables.{begins-none, right-row, wrong-row, begins-whole}
-use Rattle.counters.proofs.Turns.{Totalled, rowsTo, totalled-start, totalled-length, totalled-reached, totalled-next, rows-none, rows-next, rows-all}
-use Rattle.counters.proofs.verify.Statement.{statement}
-use Rattle.counters.proofs.verify.Tie as tie
+use Rattle.tallies.specs.Tallies.{BeginsWithRows}
+use Rattle.tallies.proofs.Tables.{begins-none, right-row, wrong-row, begins-whole}
+use Rattle.tallies.proofs.Turns.{Totalled, rowsTo, totalled-start, totalled-length, totalled-reached, totalled-next, rows-none, rows-next, rows-all}
+use Rattle.counter_checks.proofs.verify.Statement.{statement}
+use Rattle.counter_checks.proofs.verify.Tie as tie
 
 abbrev Inv-loop : tie.InvT-loop
 Inv-loop bytes superblocks blocks block per end totals₀ superblock₀ totals superblock =
-    Totalled block per bytes end superblock totals × Begins (superblockRow block per bytes) superblock superblocks
-    × Begins (blockRow block per bytes) (rowsTo block per bytes superblock) blocks
+    Totalled block per bytes end superblock totals × BeginsWithRows (superblockRow block per bytes) superblock superblocks
+    × BeginsWithRows (blockRow block per bytes) (rowsTo block per bytes superblock) blocks
 
 abbrev μ-loop : tie.MeasureT-loop
 μ-loop bytes superblocks blocks block per end totals₀ superblock₀ totals superblock = end - superblock

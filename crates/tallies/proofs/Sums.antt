@@ -13,7 +13,7 @@ use Rattle.base.proofs.Counts.{count-append, count-most}
 use Rattle.base.proofs.Ranges.{length-map-range, getD-map-range}
 use Rattle.directory.specs.Counters.{row}
 use Rattle.directory.proofs.Rows.{row-length, row-at}
-use Rattle.counters.specs.Tallies.{sums, counters}
+use Rattle.tallies.specs.Tallies.{sums, counters}
 
 -- ---- 256 numbers
 

@@ -13,7 +13,7 @@ use Rattle.base.specs.Answers.{front}
 use Rattle.base.proofs.Lists.{same-more, same-true, same-false}
 use Rattle.directory.specs.Tables.{firstRows}
 use Rattle.directory.proofs.FirstRows.{first-rows-suc, first-rows-length, first-rows-row}
-use Rattle.counters.specs.Tallies.{Begins}
+use Rattle.tallies.specs.Tallies.{BeginsWithRows}
 use Rattle.base.proofs.Fronts.{length-front, take-front, front-of-take, front-over, front-paste, paste-next}
 
 -- ---- one row written
@@ -84,7 +84,7 @@ module _ (table : List ℕ) (row : ℕ) (s : List ℕ) where
 -- ---- the rows of a table
 
 -- a table begins with no row
-pub begins-none : (f : ℕ → List ℕ) (l : List ℕ) → Begins f 0 l
+pub begins-none : (f : ℕ → List ℕ) (l : List ℕ) → BeginsWithRows f 0 l
 unfolding flatten
 begins-none f l = refl
 
@@ -104,21 +104,21 @@ module _ (f : ℕ → List ℕ) (wide : (r : ℕ) → length (f r) ≡ 256) wher
   rows-over n m l h = front-over (firstRows f n) (firstRows f m) l (omega (arith, first-rows-length f 256 wide n, first-rows-length f 256 wide m))
 
   -- a table begins with the rows in front of it
-  pub begins-front : (n : ℕ) (l : List ℕ) → Begins f n (front (firstRows f n) l)
+  pub begins-front : (n : ℕ) (l : List ℕ) → BeginsWithRows f n (front (firstRows f n) l)
   begins-front n l = rw (first-rows-length f 256 wide n) at (take-front (firstRows f n) l)
 
   -- and a table that begins with rows has them in front
-  pub front-begins : (n : ℕ) (l : List ℕ) → Begins f n l → l ≡ front (firstRows f n) l
+  pub front-begins : (n : ℕ) (l : List ℕ) → BeginsWithRows f n l → l ≡ front (firstRows f n) l
   front-begins n l b = front-of-take (firstRows f n) l (rw (first-rows-length f 256 wide n) b)
 
   -- one row more of a table is right
-  pub right-row : (n : ℕ) (l s : List ℕ) → Begins f n l → s ≡ f n → same (take 256 (drop (n * 256) l)) s ≡ true → Begins f (n + 1) l
+  pub right-row : (n : ℕ) (l s : List ℕ) → BeginsWithRows f n l → s ≡ f n → same (take 256 (drop (n * 256) l)) s ≡ true → BeginsWithRows f (n + 1) l
   right-row n l s b q e =
       let m : (n + 1) * 256 ≡ n * 256 + 256 = omega arith in
       rw (m, take-add (n * 256) 256 l, b, same-true (take 256 (drop (n * 256) l)) s e, q, add-one n) (sym (first-rows-suc f n))
 
   -- a table of n rows, all of which are there, is the rows
-  pub begins-whole : (n : ℕ) (l : List ℕ) → length l ≡ n * 256 → Begins f n l → l ≡ firstRows f n
+  pub begins-whole : (n : ℕ) (l : List ℕ) → length l ≡ n * 256 → BeginsWithRows f n l → l ≡ firstRows f n
   begins-whole n l e b = sym (take-all (n * 256) l (omega arith)) ∙ b
 
   -- a row that is not right shows that a table is not the rows

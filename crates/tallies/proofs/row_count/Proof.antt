@@ -1,9 +1,9 @@
--- `counters::row_count` meets its contract. Assumes nothing.
+-- `tallies::row_count` meets its contract. Assumes nothing.
 use native.Mathlib.Nat.{div-le-self}
 use native.Mathlib.Omega.{arith}
 use borrow.Author.Needs.{needs}
-use Rattle.counters.proofs.row_count.Statement.{statement}
-use Rattle.counters.proofs.row_count.Tie as tie
+use Rattle.tallies.proofs.row_count.Statement.{statement}
+use Rattle.tallies.proofs.row_count.Tie as tie
 
 div-result : tie.Need-div-result
 div-result c = search needs

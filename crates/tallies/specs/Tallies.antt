@@ -21,20 +21,20 @@ abbrev pub blockBytes : ℕ → List ℕ → ℕ → List ℕ
 blockBytes block bytes r = take block (drop (r * block) bytes)
 
 -- the first block row past superblock q, or past the last block row
-abbrev pub endOf : ℕ → ℕ → ℕ → ℕ → ℕ
-endOf block per n q = min (q * per + per) (suc (n / block))
+abbrev pub rowsEnd : ℕ → ℕ → ℕ → ℕ → ℕ
+rowsEnd block per n q = min (q * per + per) (suc (n / block))
 
 -- a table begins with the first n of the rows f
-abbrev pub Begins : (ℕ → List ℕ) → ℕ → List ℕ → Type 0
-Begins f n table = take (n * 256) table ≡ firstRows f n
+abbrev pub BeginsWithRows : (ℕ → List ℕ) → ℕ → List ℕ → Type 0
+BeginsWithRows f n table = take (n * 256) table ≡ firstRows f n
 
 -- superblock q is there, the totals are its row, and the block rows begin with those before it
 pub record Reached (block per : ℕ) (bytes blocks totals : List ℕ) (q : ℕ) : Type 0 where
   pub here : q * (block * per) ≤ length bytes
   pub total : totals ≡ superblockRow block per bytes q
-  pub before : Begins (blockRow block per bytes) (q * per) blocks
+  pub before : BeginsWithRows (blockRow block per bytes) (q * per) blocks
 
 -- true: the block rows of superblock q are there too, and the totals are the next row; false: the list is not the block rows
 pub record Passed (block per : ℕ) (bytes blocks totals : List ℕ) (q : ℕ) (r : Bool) : Type 0 where
-  pub yes : r ≡ true → Begins (blockRow block per bytes) (endOf block per (length bytes) q) blocks × (totals ≡ superblockRow block per bytes (q + 1))
+  pub yes : r ≡ true → BeginsWithRows (blockRow block per bytes) (rowsEnd block per (length bytes) q) blocks × (totals ≡ superblockRow block per bytes (q + 1))
   pub no : r ≡ false → blocks ≡ blockRows block per bytes → ⊥

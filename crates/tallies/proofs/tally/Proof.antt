@@ -1,4 +1,4 @@
--- `counters::tally` meets its contract. The loop's invariant: the counters are those at entry with the row of the first i bytes added. Assumes nothing.
+-- `tallies::tally` meets its contract. The loop's invariant: the counters are those at entry with the row of the first i bytes added. Assumes nothing.
 use Prim.Native.Nat.{ℕ, _+_, _*_, _%_, _≤_, _<_, _-_}
 use mathlib.Core.Path.{_≡_, refl, ap, sym, _∙_}
 use mathlib.Core.Logic.{_⊎_, inl, inr, ⊎-elim}
@@ -12,10 +12,10 @@ use Rattle.base.proofs.Tests.{below-or-not}
 use Rattle.base.proofs.Counts.{count-take-less}
 use Rattle.directory.specs.Counters.{row}
 use Rattle.directory.proofs.Rows.{row-at}
-use Rattle.counters.specs.Tallies.{sums, counters}
-use Rattle.counters.proofs.Sums.{below-at, sums-length, sums-at, sums-row, sums-none, counters-length, counters-up, lane-most}
-use Rattle.counters.proofs.tally.Statement.{statement}
-use Rattle.counters.proofs.tally.Tie as tie
+use Rattle.tallies.specs.Tallies.{sums, counters}
+use Rattle.tallies.proofs.Sums.{below-at, sums-length, sums-at, sums-row, sums-none, counters-length, counters-up, lane-most}
+use Rattle.tallies.proofs.tally.Statement.{statement}
+use Rattle.tallies.proofs.tally.Tie as tie
 
 abbrev Inv-loop : tie.InvT-loop
 Inv-loop part lanes₀ i₀ lanes i = (i ≤ length part) × (length lanes ≡ 512) × (counters lanes ≡ sums (counters lanes₀) (row (take i part)))

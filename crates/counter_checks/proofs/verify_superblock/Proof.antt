@@ -1,4 +1,4 @@
--- `counters::verify_superblock` meets its contract. The loop's invariant: the counters are those from the start of the superblock to the row, and the rows before it are right. Assumes nothing.
+-- `counter_checks::verify_superblock` meets its contract. The loop's invariant: the counters are those from the start of the superblock to the row, and the rows before it are right. Assumes nothing.
 use Prim.Native.Nat.{_/_, _-_, suc}
 use mathlib.Core.Path.{sym, _∙_}
 use mathlib.Core.Bool.{false≢true}
@@ -8,15 +8,15 @@ use borrow.Author.Tests.{not-true, not-false}
 use lib.ListN.{length}
 use Rattle.directory.specs.Counters.{blockRow, blockRows}
 use Rattle.directory.proofs.Rows.{block-row-length}
-use Rattle.counters.specs.Tallies.{counters, Begins}
-use Rattle.counters.proofs.Tables.{right-row, wrong-row}
-use Rattle.counters.proofs.Turns.{Tallied, end-asks, tallied-start, tallied-below, tallied-row, tally-asks, tallied-next, ended, total-next, add-asks}
-use Rattle.counters.proofs.verify_superblock.Statement.{statement}
-use Rattle.counters.proofs.verify_superblock.Tie as tie
+use Rattle.tallies.specs.Tallies.{counters, BeginsWithRows}
+use Rattle.tallies.proofs.Tables.{right-row, wrong-row}
+use Rattle.tallies.proofs.Turns.{Tallied, end-asks, tallied-start, tallied-below, tallied-row, tally-asks, tallied-next, ended, total-next, add-asks}
+use Rattle.counter_checks.proofs.verify_superblock.Statement.{statement}
+use Rattle.counter_checks.proofs.verify_superblock.Tie as tie
 
 abbrev Inv-loop : tie.InvT-loop
 Inv-loop bytes blocks totals block per superblock lanes₀ row₀ end lanes row =
-    Tallied block per bytes superblock end row lanes × Begins (blockRow block per bytes) row blocks
+    Tallied block per bytes superblock end row lanes × BeginsWithRows (blockRow block per bytes) row blocks
 
 abbrev μ-loop : tie.MeasureT-loop
 μ-loop bytes blocks totals block per superblock lanes₀ row₀ end lanes row = end - row

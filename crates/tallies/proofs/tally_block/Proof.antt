@@ -1,4 +1,4 @@
--- `counters::tally_block` meets its contract. The part that is tallied is the block. Assumes nothing.
+-- `tallies::tally_block` meets its contract. The part that is tallied is the block. Assumes nothing.
 use Prim.Native.Nat.{ℕ, _*_, _-_}
 use mathlib.Core.Path.{_≡_, ap, _∙_}
 use mathlib.Core.List.{List}
@@ -7,9 +7,9 @@ use borrow.Author.Needs.{needs}
 use lib.ListN.{take, drop}
 use Rattle.directory.specs.Counters.{row}
 use Rattle.base.proofs.Parts.{part-cut}
-use Rattle.counters.specs.Tallies.{sums, counters, blockBytes}
-use Rattle.counters.proofs.tally_block.Statement.{statement}
-use Rattle.counters.proofs.tally_block.Tie as tie
+use Rattle.tallies.specs.Tallies.{sums, counters, blockBytes}
+use Rattle.tallies.proofs.tally_block.Statement.{statement}
+use Rattle.tallies.proofs.tally_block.Tie as tie
 
 -- the part that is tallied is the block
 part : (c : tie.After-tally-arg) → let a = c .before .before .before .args in

@@ -14,8 +14,8 @@ use Rattle.base.specs.Texts.{maxSuperblock}
 use Rattle.directory.specs.Counters.{row, superblockRow, blockRow, Sizes, maxBytes}
 use Rattle.base.proofs.Parts.{quotient-inside, inside-quotient, slice-more, take-slice}
 use Rattle.directory.proofs.Rows.{row-none, superblock-row-length, first-block, next-block, in-superblock, superblock-some, block-most, rows-most}
-use Rattle.counters.specs.Tallies.{sums, counters, blockBytes, endOf, Begins, Reached}
-use Rattle.counters.proofs.Sums.{row-below, sums-rows, counters-none}
+use Rattle.tallies.specs.Tallies.{sums, counters, blockBytes, rowsEnd, BeginsWithRows, Reached}
+use Rattle.tallies.proofs.Sums.{row-below, sums-rows, counters-none}
 
 -- ---- the blocks of a superblock
 
@@ -23,7 +23,7 @@ use Rattle.counters.proofs.Sums.{row-below, sums-rows, counters-none}
 pub record Tallied (block per : ℕ) (bytes : List ℕ) (q end r : ℕ) (lanes : List ℕ) : Type 0 where
   pub from : q * per ≤ r
   pub to : r ≤ end
-  pub ends : end ≡ endOf block per (length bytes) q
+  pub ends : end ≡ rowsEnd block per (length bytes) q
   pub long : length lanes ≡ 512
   pub counted : counters lanes ≡ row (slice (q * (block * per)) (r * block) bytes)
 
@@ -41,7 +41,7 @@ module _ {block per : ℕ} {bytes : List ℕ} (sizes : Sizes block per bytes) wh
     end-asks = (sizes .block-some, sizes .bytes-most, rows-most sizes q (reached .here))
 
     -- at the start of superblock q the counters are zeros
-    pub tallied-start : (end : ℕ) → end ≡ endOf block per (length bytes) q → Tallied block per bytes q end (q * per) (replicate 512 0)
+    pub tallied-start : (end : ℕ) → end ≡ rowsEnd block per (length bytes) q → Tallied block per bytes q end (q * per) (replicate 512 0)
     tallied-start end e = record {
       from = le-refl _;
       to = omega (arith, quotient-inside (length bytes) block (q * per) (sizes .block-some) (rw (first-block block per q) (reached .here)));
@@ -85,7 +85,7 @@ module _ {block per : ℕ} {bytes : List ℕ} (sizes : Sizes block per bytes) wh
 
       module _ (past : end ≤ r) where
         -- the loop is past the last row only at the end
-        pub ended : r ≡ endOf block per (length bytes) q
+        pub ended : r ≡ rowsEnd block per (length bytes) q
         ended = omega (arith, t .to, t .ends)
 
         -- the first bytes up to the end of the superblock, or of the bytes
@@ -156,7 +156,7 @@ module _ {block per : ℕ} {bytes : List ℕ} (sizes : Sizes block per bytes) {e
   rows-here h = omega (arith, quotient-inside (length bytes) block (q * per) (sizes .block-some) (rw (first-block block per q) (superblock-there h)))
 
   -- what `fill_superblock` and `verify_superblock` ask
-  pub totalled-reached : (blocks : List ℕ) → q < end → Begins (blockRow block per bytes) (rowsTo block per bytes q) blocks → Reached block per bytes blocks totals q
+  pub totalled-reached : (blocks : List ℕ) → q < end → BeginsWithRows (blockRow block per bytes) (rowsTo block per bytes q) blocks → Reached block per bytes blocks totals q
   totalled-reached blocks h b = record { here = superblock-there h; total = t .total; before = rw (rows-here h) at b }
 
   -- after superblock q the loop has come to the next
@@ -164,7 +164,7 @@ module _ {block per : ℕ} {bytes : List ℕ} (sizes : Sizes block per bytes) {e
   totalled-next h totals′ e = record { most = omega arith; ends = t .ends; total = e }
 
   -- the block rows up to the end of superblock q stand before the next
-  pub rows-next : endOf block per (length bytes) q ≡ rowsTo block per bytes (q + 1)
+  pub rows-next : rowsEnd block per (length bytes) q ≡ rowsTo block per bytes (q + 1)
   rows-next = ap (λ (n : ℕ). min n (suc (length bytes / block))) (sym (suc-mul q per) ∙ ap (λ (n : ℕ). n * per) (sym (add-one q)))
 
   -- and all block rows where the superblocks are at their end

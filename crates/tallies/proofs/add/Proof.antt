@@ -1,4 +1,4 @@
--- `counters::add` meets its contract. The loop's invariant: the first x sums are written over the totals. Assumes nothing.
+-- `tallies::add` meets its contract. The loop's invariant: the first x sums are written over the totals. Assumes nothing.
 use Prim.Native.Nat.{ℕ, _+_, _<_, _-_}
 use mathlib.Core.Path.{_≡_, ap, _∙_}
 use mathlib.Core.List.{List, _++_, append-nil}
@@ -6,11 +6,11 @@ use native.Mathlib.Omega.{arith}
 use borrow.Author.Needs.{needs}
 use lib.ListN.{getD, drop, drop-of-length-le}
 use lib.Seq.{take-all}
-use Rattle.counters.specs.Tallies.{sums, counters}
-use Rattle.counters.proofs.Sums.{below-at, sums-length, sums-at, counters-at, counter-fits}
-use Rattle.counters.proofs.Tables.{Put, put-start, put-left, put-next, put-end}
-use Rattle.counters.proofs.add.Statement.{statement}
-use Rattle.counters.proofs.add.Tie as tie
+use Rattle.tallies.specs.Tallies.{sums, counters}
+use Rattle.tallies.proofs.Sums.{below-at, sums-length, sums-at, counters-at, counter-fits}
+use Rattle.tallies.proofs.Tables.{Put, put-start, put-left, put-next, put-end}
+use Rattle.tallies.proofs.add.Statement.{statement}
+use Rattle.tallies.proofs.add.Tie as tie
 
 abbrev Inv-loop : tie.InvT-loop
 Inv-loop totals₀ lanes x₀ totals x = Put totals₀ 0 (sums totals₀ (counters lanes)) 0 totals x
