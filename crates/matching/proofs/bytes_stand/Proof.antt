@@ -1,4 +1,4 @@
--- `searches::bytes_stand` meets its contract: the bytes agree so far, or one does not. Assumes nothing.
+-- `matching::bytes_stand` meets its contract: the bytes agree so far, or one does not. Assumes nothing.
 use Prim.Native.Nat.{ℕ, _+_, _-_, _≤_, _<_}
 use mathlib.Core.Logic.{⊎-elim}
 use mathlib.Core.Path.{_≡_, sym}
@@ -7,15 +7,15 @@ use borrow.Author.Needs.{needs}
 use lib.ListN.{length, getD}
 use Rattle.base.proofs.Tests.{below-or-not}
 use Rattle.phrases.proofs.Standing.{stands-yes, stands-other}
-use Rattle.searches.proofs.bytes_stand.Statement.{statement}
-use Rattle.searches.proofs.bytes_stand.Tie as tie
+use Rattle.matching.proofs.bytes_stand.Statement.{statement}
+use Rattle.matching.proofs.bytes_stand.Tie as tie
 
 -- the bytes before i are those from the position on
 abbrev Inv-loop : tie.InvT-loop
-Inv-loop firsts bytes at i₀ i = (i ≤ length firsts) × ((k : ℕ) → k < i → getD bytes (at + k) 0 ≡ getD firsts k 0)
+Inv-loop firsts bytes start i₀ i = (i ≤ length firsts) × ((k : ℕ) → k < i → getD bytes (start + k) 0 ≡ getD firsts k 0)
 
 abbrev μ-loop : tie.MeasureT-loop
-μ-loop firsts bytes at i₀ i = length firsts - i
+μ-loop firsts bytes start i₀ i = length firsts - i
 
 loop-holds : tie.Need-loop-holds Inv-loop μ-loop
 loop-holds c = (omega arith, λ k h. absurd (omega arith))
@@ -32,7 +32,7 @@ shared-slice-read-if1-2 c = search needs
 returns : tie.Need-returns Inv-loop μ-loop
 returns c =
     let st = c .before .before .before .before .before in
-    sym (stands-other (st .args .bytes .now) (st .args .firsts .now) (st .args .at) (c .before .before .before .before .loop .i) (omega arith) (c .if1 .taken))
+    sym (stands-other (st .args .bytes .now) (st .args .firsts .now) (st .args .at .0) (c .before .before .before .before .loop .i) (omega arith) (c .if1 .taken))
 
 add-i : tie.Need-add-i Inv-loop μ-loop
 add-i c = search needs
@@ -48,7 +48,7 @@ loop-again c =
 returns-2 : tie.Need-returns-2 Inv-loop μ-loop
 returns-2 c =
     let st = c .before .before in
-    sym (stands-yes (st .args .bytes .now) (st .args .firsts .now) (st .args .at) (omega (arith, st .pre)) (λ k h. c .before .loop .inv .1 k (omega arith)))
+    sym (stands-yes (st .args .bytes .now) (st .args .firsts .now) (st .args .at .0) (omega (arith, st .pre)) (λ k h. c .before .loop .inv .1 k (omega arith)))
 
 pub bytes-stand-spec : {M : Type 1} → statement M
 bytes-stand-spec =

@@ -21,7 +21,7 @@ use Rattle.words.specs.Ready.{Ready}
 use Rattle.words.proofs.Positions.{root-byte, root-inside}
 use Rattle.phrases.specs.Phrases.{stands}
 use Rattle.phrases.proofs.Standing.{stands-inside, stands-word, stands-yes}
-use Rattle.searches.specs.Searching.{firstBytes, Searchable, Searching}
+use Rattle.matching.specs.Searching.{firstBytes, Searchable, Searching}
 
 -- the first byte of a codeword as it is handed on
 pub encoded-first : (s rank : ℕ) (w : Codeword) → bytesOf w ≡ code s rank → w .length ≤ 3 → w .first ≡ firstByte (code s rank)

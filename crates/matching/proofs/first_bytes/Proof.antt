@@ -1,4 +1,4 @@
--- `searches::first_bytes` meets its contract: the front of the table has the first bytes of the words passed. Assumes nothing.
+-- `matching::first_bytes` meets its contract: the front of the table has the first bytes of the words passed. Assumes nothing.
 use Prim.Native.Nat.{ℕ, _-_, _≤_, _<_}
 use mathlib.Core.Path.{_≡_, refl, sym, ap, _∙_}
 use mathlib.Core.List.{List}
@@ -10,10 +10,10 @@ use Rattle.base.specs.Answers.{front}
 use Rattle.base.proofs.Lists.{all-at}
 use Rattle.base.proofs.Fronts.{front-none, front-next}
 use Rattle.dense.specs.Code.{maxVocabulary}
-use Rattle.searches.specs.Searching.{firstBytes}
-use Rattle.searches.proofs.FirstBytes.{encoded-first, first-bytes-length, first-byte-at}
-use Rattle.searches.proofs.first_bytes.Statement.{statement}
-use Rattle.searches.proofs.first_bytes.Tie as tie
+use Rattle.matching.specs.Searching.{firstBytes}
+use Rattle.matching.proofs.FirstBytes.{encoded-first, first-bytes-length, first-byte-at}
+use Rattle.matching.proofs.first_bytes.Statement.{statement}
+use Rattle.matching.proofs.first_bytes.Tie as tie
 
 -- the table has in front the first bytes of the words before i
 abbrev Inv-loop : tie.InvT-loop

@@ -1,4 +1,4 @@
--- `searches::rarest` meets its contract: no word passed stands less often. Assumes nothing.
+-- `hits::rarest` meets its contract: no word passed stands less often. Assumes nothing.
 use Prim.Native.Nat.{ℕ, _-_, _≤_, _<_}
 use mathlib.Core.Logic.{⊎-elim}
 use mathlib.Core.Path.{_≡_}
@@ -9,8 +9,8 @@ use Rattle.base.proofs.Lists.{all-at}
 use Rattle.base.proofs.Tests.{below-or-not}
 use Rattle.index.specs.Arrays.{arrays, textIn}
 use Rattle.base.specs.Lists.{countOf}
-use Rattle.searches.proofs.rarest.Statement.{statement}
-use Rattle.searches.proofs.rarest.Tie as tie
+use Rattle.hits.proofs.rarest.Statement.{statement}
+use Rattle.hits.proofs.rarest.Tie as tie
 
 abbrev Inv-loop : tie.InvT-loop
 Inv-loop s shape lengths bytes superblocks blocks starts words rare₀ first least₀ i₀ rare least i = (i ≤ length words) × (rare < i) × (least ≡ countOf (getD words rare 0) (textIn s (arrays lengths bytes superblocks blocks))) × ((k : ℕ) → k < i → least ≤ countOf (getD words k 0) (textIn s (arrays lengths bytes superblocks blocks)))
