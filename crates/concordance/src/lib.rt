@@ -91,7 +91,7 @@ pub extern "C" fn concordance_ask(
 ) -> Answer
     ensures { λ r. ⌜ r ≡ askAnswer 128 shape (arrays (now (lengths .entry)) (now (bytes .entry)) (now (superblocks .entry)) (now (blocks .entry))) (now (words .entry)) question ⌝ }
 {
-    questions::ask(shape, lengths, bytes, superblocks, blocks, words, question)
+    asking::ask(shape, lengths, bytes, superblocks, blocks, words, question)
 }
 
 // Answers a sheet of questions of an index: the check is made once, and then each question is
@@ -160,7 +160,7 @@ pub extern "C" fn concordance_passage(
 ) -> Answer
     ensures { λ r. ⌜ (r ≡ passageAnswer 128 shape (arrays (now (lengths .entry)) (now (bytes .entry)) (now (superblocks .entry)) (now (blocks .entry))) place (now (passage .entry))) × (now (passage .exit) ≡ passageExit 128 shape (arrays (now (lengths .entry)) (now (bytes .entry)) (now (superblocks .entry)) (now (blocks .entry))) place (now (passage .entry))) ⌝ }
 {
-    questions::passage(shape, lengths, bytes, superblocks, blocks, place, passage)
+    asking::passage(shape, lengths, bytes, superblocks, blocks, place, passage)
 }
 
 // A listing that has written nothing: next 0, not finished.

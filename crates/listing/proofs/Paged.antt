@@ -16,8 +16,8 @@ use Rattle.index.specs.Entries.{indexCases, checkAnswer}
 use Rattle.phrases.specs.Phrases.{places, stands}
 use Rattle.pages.specs.Pages.{HitPage, pageOver}
 use Rattle.pages.proofs.Searching.{made-finished}
-use Rattle.searches.specs.declared.Written.{Written}
-use Rattle.searches.specs.Searching.{writtenOf}
+use Rattle.paging.specs.declared.Written.{Written}
+use Rattle.paging.specs.Written.{writtenOf}
 use Rattle.questions.specs.Answering.{phraseIn, phraseCases, phraseRefusal, phraseAnswer, rankAskedCase}
 use Rattle.questions.proofs.Answered.{phrase-refused}
 use Rattle.listing.specs.declared.Listing.{Listing}
@@ -140,7 +140,7 @@ module _ (call : Call) (state : Listing) where
   -- what an accepted call returns and leaves in its slice, of what the search has written
   pub page-written : pageAnswer call state ≡ accepted (length (callPage call state .found)) → (w : Written) (slice : List ℕ)
       → w ≡ writtenOf (callPage call state) → slice ≡ front (callPage call state .found) (call .lines)
-      → (_≡_ {A = Page} (record { answer = accepted (w .count); more = w .more; listing = record { next = w .next; finished = w .finished } }) (pageOf call state .page))
+      → (_≡_ {A = Page} (record { answer = accepted (w .count); more = w .more; listing = record { next = w .next .0; finished = w .finished } }) (pageOf call state .page))
       × (slice ≡ pageOf call state .lines)
   page-written e w slice is f =
       let p = page-accepted e in
@@ -153,6 +153,6 @@ module _ (call : Call) (state : Listing) where
   page-finished e f =
       let m = made-finished (stands (callText call) (callPhrase call)) (length (callText call)) (state .next) (call .lines) in
       let c : callPage call state ≡ pageOver (stands (callText call) (callPhrase call)) (length (callText call)) (length (call .lines)) (state .next) true = rw f in
-      let w : _≡_ {A = Written} (record { count = 0; more = false; next = state .next; finished = state .finished }) (writtenOf (callPage call state)) =
+      let w : _≡_ {A = Written} (record { count = 0; more = false; next = record { 0 = state .next }; finished = state .finished }) (writtenOf (callPage call state)) =
       rw (c, f, sym (m .valueIs), sym (m .moreIs), sym (m .nextIs), sym (m .finishedIs)) in
-      page-written e (record { count = 0; more = false; next = state .next; finished = state .finished }) (call .lines) w (m .sliceIs ∙ ap (λ (x : HitPage). front (x .found) (call .lines)) (sym c))
+      page-written e (record { count = 0; more = false; next = record { 0 = state .next }; finished = state .finished }) (call .lines) w (m .sliceIs ∙ ap (λ (x : HitPage). front (x .found) (call .lines)) (sym c))

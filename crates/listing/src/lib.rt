@@ -8,6 +8,7 @@ ghost use Rattle.listing.specs.Paging.{opened, unwritten, callOf, reques
 use base::Answer;
 use base::refusal;
 use index::Shape;
+use tree::Place;
 
 // The state of a listing, which each page takes and hands back: the next place, and whether it is
 // finished.
@@ -82,23 +83,23 @@ impl Listing {
 }
 
 // The answer of the tests of a page call after the check of its index: of the phrase, of the next
-// place in a text of this length, and of the page's room; 0 accepted where none refuses.
+// place in a text of n words, and of the page's room; 0 accepted where none refuses.
 fn request_answer(
     vocabulary: usize,
     words: &[u32],
     start: usize,
     count: usize,
-    length: usize,
+    n: usize,
     next: usize,
     room: usize,
 ) -> Answer
-    ensures { λ r. ⌜ r ≡ requestAnswer vocabulary (now (words .entry)) start count length next room ⌝ }
+    ensures { λ r. ⌜ r ≡ requestAnswer vocabulary (now (words .entry)) start count n next room ⌝ }
 {
-    let refused = questions::answering::phrase_refusal(vocabulary, words, start, count);
+    let refused = answering::phrase_refusal(vocabulary, words, start, count);
     if refused != 0 {
         return Answer::refused(refused);
     }
-    if length < next {
+    if n < next {
         return Answer::refused(refusal::PLACE);
     }
     if room == 0 {
@@ -127,7 +128,8 @@ fn written_page(
     let mut starts = [0u32; starts::MAX_STARTS];
     starts::node_starts(lengths, &mut starts);
     let end = start + count;
-    let written = searches::write_page(
+    let next = Place(state.next);
+    let written = paging::write_page(
         s,
         shape,
         lengths,
@@ -136,14 +138,14 @@ fn written_page(
         blocks,
         &starts,
         &words[start..end],
-        state.next,
+        next,
         lines,
     );
     Page {
         answer: Answer::accepted(written.count),
         more: written.more,
         listing: Listing {
-            next: written.next,
+            next: written.next.0,
             finished: written.finished,
         },
     }
@@ -170,14 +172,14 @@ pub fn page_of(
     if checked.refusal != 0 {
         return Page::unwritten(checked, state);
     }
-    let length = words::text_length(lengths);
+    let n = words::text_length(lengths);
     let room = lines.len();
     let request = request_answer(
         shape.vocabulary,
         words,
         start,
         count,
-        length,
+        n,
         state.next,
         room,
     );

@@ -3,7 +3,5 @@ pub mod Pages
 pub mod Runs
 pub mod Complete
 pub mod Filling
-pub mod Along
 pub mod Searching
-pub mod Counting
 pub mod Samples

@@ -13,16 +13,12 @@ use Rattle.base.proofs.Ranges.{filter-range-append, filter-range-none}
 use Rattle.phrases.specs.Neighbours.{standsAt, neighbourAt, neighbours, Mirror}
 use Rattle.base.proofs.Filters.{filter-range-same, length-filter-shift, filter-range-end}
 
--- two tests in the other order, and a second test that never holds
+-- two tests in the other order
 and-swap : (a b : Bool) → a && b ≡ b && a
 and-swap true true = refl
 and-swap true false = refl
 and-swap false true = refl
 and-swap false false = refl
-
-and-never : (a : Bool) → a && false ≡ false
-and-never true = refl
-and-never false = refl
 
 -- no word stands past the end, nor left of the first place
 stands-at-past : (t : List ℕ) (w k : ℕ) → length t ≤ k → standsAt t w (pos k) ≡ false
@@ -46,7 +42,7 @@ module _ (t : List ℕ) (w v k : ℕ) where
   -- no pair has v before place k, nor past the end
   no-pair-left : (q : ℕ) → q < k → neighbourAt t v w (negℤ (pos k)) q ≡ false
   unfolding neighbourAt
-  no-pair-left q h = rw (stands-at-left t w q k h) (and-never (standsAt t v (pos q)))
+  no-pair-left q h = rw (stands-at-left t w q k h) (and-swap (standsAt t v (pos q)) false)
 
   no-pair-past : (q : ℕ) → length t ≤ q → neighbourAt t v w (negℤ (pos k)) q ≡ false
   unfolding neighbourAt

@@ -7,17 +7,17 @@ use native.Mathlib.Nat.{sub-zero}
 use native.Mathlib.Omega.{arith}
 use borrow.Author.Tests.{ltb-true, lt-ltb, eqb-true, eq-eqb}
 use lib.Dec.{eqb, ltb}
-use lib.IntN.{ℤ, pos, negsuc, _+ℤ_, negℤ}
+use lib.IntN.{ℤ, pos, negsuc, _+ℤ_}
 use lib.ListN.{length, getD}
 use Rattle.base.specs.Lists.{filterBy, rangeFrom, countOf, nth}
 use Rattle.base.proofs.Tests.{and-left, and-right}
 use Rattle.base.proofs.Ranges.{map-range-same}
+use Rattle.tree.specs.declared.Place.{Place}
 use Rattle.phrases.specs.declared.Found.the-variants.{At, Outside}
 use Rattle.phrases.specs.Neighbours.{standsAt, neighbourAt, neighbours}
-use Rattle.phrases.specs.Offsets.{placeWithin, shiftedOf}
+use Rattle.phrases.specs.Offsets.{foundAt, placeWithin, shiftedOf}
 use Rattle.phrases.specs.Anchors.{Anchored, candidate, firstCandidate}
 use Rattle.phrases.proofs.Anchors.{candidates-between, first-past}
-use Rattle.phrases.proofs.Mirror.{mirror}
 
 -- a pair has its first word for an anchor
 pub neighbour-anchored : (t : List ℕ) (w v : ℕ) (d : ℤ) → Anchored t w 0 (neighbourAt t w v d)
@@ -45,11 +45,6 @@ neighbours-along t w v d =
     ∙ ap (λ (m : ℕ). filterBy P (map (candidate t w 0) (rangeFrom (firstCandidate t w 0 0) (m - firstCandidate t w 0 0)))) (first-past t w 0 (0 + length t) (omega arith))
     ∙ simp (z, sub-zero) (ap (filterBy P) (map-range-same (candidate t w 0) (λ (j : ℕ). nth w j t) (countOf w t) (λ j h. sub-zero (nth w j t)))))
 
--- the same number, along the occurrences of v with the offset negated
-pub neighbours-mirrored : (t : List ℕ) (w v : ℕ) (d : ℤ)
-    → neighbours t w v d ≡ length (filterBy (neighbourAt t v w (negℤ d)) (map (λ (j : ℕ). nth v j t) (rangeFrom 0 (countOf v t))))
-neighbours-mirrored t w v d = mirror t w v d ∙ neighbours-along t v w (negℤ d)
-
 -- at a place with w, the place moved by the offset decides
 pub neighbour-test : (t : List ℕ) (w v : ℕ) (d : ℤ) (q : ℕ) → q < length t → getD t q 0 ≡ w → neighbourAt t w v d q ≡ standsAt t v (pos q +ℤ d)
 unfolding standsAt neighbourAt
@@ -57,15 +52,15 @@ neighbour-test t w v d q inside word = rw (lt-ltb q (length t) inside, eq-eqb (g
 
 module _ (t : List ℕ) (v : ℕ) (d : ℤ) (q : ℕ) where
   -- where that is inside the text, its word decides
-  pub stands-moved : (p : ℕ) → shiftedOf q d (length t) ≡ At p → standsAt t v (pos q +ℤ d) ≡ eqb (getD t p 0) v
+  pub stands-moved : (p : Place) → shiftedOf q d (length t) ≡ At p → standsAt t v (pos q +ℤ d) ≡ eqb (getD t (p .0) 0) v
   unfolding standsAt shiftedOf
   stands-moved p e = by (pos q +ℤ d) e
     where
-      by : (z : ℤ) → placeWithin z (length t) ≡ At p → standsAt t v z ≡ eqb (getD t p 0) v
+      by : (z : ℤ) → placeWithin z (length t) ≡ At p → standsAt t v z ≡ eqb (getD t (p .0) 0) v
       by (pos k) e = go (ltb k (length t)) e
         where
-          go : (b : Bool) → cond b (At k) Outside ≡ At p → b && eqb (getD t k 0) v ≡ eqb (getD t p 0) v
-          go true e = let s : k ≡ p = cc in ap (λ (m : ℕ). eqb (getD t m 0) v) s
+          go : (b : Bool) → cond b (foundAt k) Outside ≡ At p → b && eqb (getD t k 0) v ≡ eqb (getD t (p .0) 0) v
+          go true e = let s : k ≡ p .0 = cc in ap (λ (m : ℕ). eqb (getD t m 0) v) s
           go false e = let z : _≡_ {A = ℕ} 0 1 = cc in absurd (omega arith)
       by (negsuc k) e = let z : _≡_ {A = ℕ} 0 1 = cc in absurd (omega arith)
 
@@ -77,7 +72,7 @@ module _ (t : List ℕ) (v : ℕ) (d : ℤ) (q : ℕ) where
       by : (z : ℤ) → placeWithin z (length t) ≡ Outside → standsAt t v z ≡ false
       by (pos k) e = go (ltb k (length t)) e
         where
-          go : (b : Bool) → cond b (At k) Outside ≡ Outside → b && eqb (getD t k 0) v ≡ false
+          go : (b : Bool) → cond b (foundAt k) Outside ≡ Outside → b && eqb (getD t k 0) v ≡ false
           go true e = let z : _≡_ {A = ℕ} 0 1 = cc in absurd (omega arith)
           go false e = refl
       by (negsuc k) e = refl

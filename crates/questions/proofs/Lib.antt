@@ -1,3 +1,4 @@
 pub mod Unused
 pub mod Read
 pub mod Answered
+pub mod Built

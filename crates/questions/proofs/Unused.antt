@@ -1,17 +1,36 @@
 -- Fields that a kind does not use never matter, and the mirror law of the calls follows from that of the numbers. Assumes nothing.
-use Prim.Native.Nat.{zero, suc}
-use mathlib.Core.Path.{_≡_, refl}
-use mathlib.Core.Bool.{Bool, true, false, _&&_}
+use Prim.Native.Nat.{ℕ, zero, suc, _≤_}
+use mathlib.Core.Path.{_≡_, refl, sym, ap, _∙_}
+use mathlib.Core.Bool.{Bool, true, false, _&&_, false≢true}
+use native.Mathlib.Omega.{arith}
+use borrow.Author.Tests.{ne-eqb}
 use lib.Dec.{ltb}
 use lib.IntN.{ℤ, pos, negsuc, negℤ, natAbs}
-use Rattle.base.specs.Texts.{ranksBelow}
+use Rattle.base.specs.Answers.{firstOf}
+use Rattle.base.specs.Texts.{outside, ranksBelow}
+use Rattle.base.proofs.Tests.{inside-range}
+use Rattle.index.specs.Arrays.{textIn}
+use Rattle.index.specs.Entries.{indexCases}
 use Rattle.phrases.proofs.Mirror.{mirror}
 use Rattle.questions.specs.Answering.{askAnswer, questionAnswer, neighboursAnswer, rankAskedCase}
 use Rattle.questions.specs.Laws.{FieldsUnused, MirrorAsked}
+use Rattle.questions.proofs.Answered.{kind-none}
 
 pub fields-unused : FieldsUnused
 unfolding askAnswer questionAnswer
-fields-unused s shape a words q = record { kind1 = λ e. rw e; kind2 = λ e. rw e; kind3 = λ e. rw e; kind4 = λ e. rw e; kind5 = λ e. rw e }
+fields-unused s shape a words q = record {
+  kind1 = λ e. rw e;
+  kind2 = λ e. rw e;
+  kind3 = λ e. rw e;
+  kind4 = λ e. rw e;
+  kind5 = λ e. rw e;
+  otherKind = λ o. ap (firstOf (indexCases s shape a)) (kind-none (shape .vocabulary) (textIn s a) words q (none o 1 (omega arith) (omega arith)) (none o 2 (omega arith) (omega arith)) (none o 3 (omega arith) (omega arith)) (none o 4 (omega arith) (omega arith)) (none o 5 (omega arith) (omega arith)));
+  lentWords = λ other h. rw (ne-eqb (q .kind) 5 h);
+}
+  where
+    -- a kind outside 1 to 5 is none of them
+    none : outside 1 5 (q .kind) ≡ true → (k : ℕ) → 1 ≤ k → k ≤ 5 → q .kind ≡ k → ⊥
+    none o k l h e = false≢true (sym (inside-range 1 5 (q .kind) (omega arith) (omega arith)) ∙ o)
 
 -- two tests in either order
 and-turned : (p q : Bool) → (p && (q && true)) ≡ (q && (p && true))

@@ -1,14 +1,19 @@
--- Statements: fields that a kind does not use never matter, an index is read back by the calls, and the mirror law.
+-- Statements: what a kind does not use never matters, an index is read back by the calls, and so is what building left; the mirror law.
 use Prim.Native.Nat.{ℕ, _+_, _≤_, _<_}
 use mathlib.Core.Path.{_≡_}
+use mathlib.Core.Logic.{_↔_}
+use mathlib.Core.Bool.{true, false}
 use mathlib.Core.List.{List}
 use lib.IntN.{ℤ, negℤ}
 use lib.ListN.{length, getD, take, drop}
-use Rattle.base.specs.Answers.{accepted}
+use Rattle.base.specs.Refusals.{refusalKind}
+use Rattle.base.specs.Answers.{accepted, refused, isAccepted, firstOf}
+use Rattle.base.specs.Texts.{outside}
 use Rattle.dense.specs.Code.{Closing}
 use Rattle.index.specs.declared.Shape.{Shape}
-use Rattle.index.specs.Arrays.{Arrays}
-use Rattle.index.specs.Exact.{WithinLimits, HasIndex}
+use Rattle.index.specs.Arrays.{Arrays, arrays, indexOf}
+use Rattle.index.specs.Entries.{isShorter, buildAnswer, buildExit, indexCases, checkAnswer}
+use Rattle.index.specs.Exact.{WithinLimits, IsText, HasIndex}
 use Rattle.questions.specs.declared.Question.{Question}
 use Rattle.questions.specs.Makers.{asksWordAt, asksOccurrencesBelow, asksPlaceOf, asksNeighbours, asksPhrase}
 use Rattle.questions.specs.Answering.{askAnswer}
@@ -21,6 +26,10 @@ pub record UnusedFields (s : ℕ) (shape : Shape) (a : Arrays) (words : List ℕ
   pub kind3 : q .kind ≡ 3 → askAnswer s shape a words q ≡ askAnswer s shape a words (asksPlaceOf (q .w) (q .p))
   pub kind4 : q .kind ≡ 4 → askAnswer s shape a words q ≡ askAnswer s shape a words (asksNeighbours (q .w) (q .v) (q .d))
   pub kind5 : q .kind ≡ 5 → askAnswer s shape a words q ≡ askAnswer s shape a words (asksPhrase (q .start) (q .length))
+  -- of a kind outside 1 to 5 it is refusal 7, after those of the index, whatever the fields
+  pub otherKind : outside 1 5 (q .kind) ≡ true → askAnswer s shape a words q ≡ firstOf (indexCases s shape a) (refused refusalKind)
+  -- and only kind 5 reads the lent words
+  pub lentWords : (other : List ℕ) → (q .kind ≡ 5 → ⊥) → askAnswer s shape a words q ≡ askAnswer s shape a other q
 
 -- Statement: of every question.
 abbrev pub FieldsUnused : Type 0
@@ -39,6 +48,30 @@ abbrev pub IndexReadByCalls : Type 0
 IndexReadByCalls =
     (s : ℕ) (shape : Shape) (t : List ℕ) (a : Arrays) → Closing s → WithinLimits s shape → HasIndex s shape t a →
     ReadByCalls s shape t a
+
+-- the fronts of four slices that have the lengths of the arrays
+abbrev pub fronts : Arrays → Arrays → Arrays
+fronts a z =
+    arrays
+    (take (length (a .lengths)) (z .lengths))
+    (take (length (a .bytes)) (z .bytes))
+    (take (length (a .superblocks)) (z .superblocks))
+    (take (length (a .blocks)) (z .blocks))
+
+-- building, checking and reading, by the calls
+pub record BuiltReadByCalls (s : ℕ) (shape : Shape) (t : List ℕ) (z : Arrays) : Type 0 where
+  -- building is accepted exactly if V, B and b are within their limits, t is a text of the vocabulary, and no slice is too short
+  pub acceptedIf :
+      (isAccepted (buildAnswer s shape t z) ≡ true)
+      ↔ (WithinLimits s shape × IsText (shape .vocabulary) t × (isShorter z (indexOf s shape t) ≡ false))
+  -- what an accepted call left in front of its slices is accepted by the check
+  pub checks : isAccepted (buildAnswer s shape t z) ≡ true → checkAnswer s shape (fronts (indexOf s shape t) (buildExit s shape t z)) ≡ accepted 0
+  -- and read back
+  pub reads : isAccepted (buildAnswer s shape t z) ≡ true → ReadByCalls s shape t (fronts (indexOf s shape t) (buildExit s shape t z))
+
+-- Statement: at every number of closing values, of every V, B and b, every text and all slices.
+abbrev pub BuildReadByCalls : Type 0
+BuildReadByCalls = (s : ℕ) (shape : Shape) (t : List ℕ) (z : Arrays) → Closing s → BuiltReadByCalls s shape t z
 
 -- Statement: the mirror law, of the calls: the same answer, refusals too
 abbrev pub MirrorAsked : Type 0

@@ -60,7 +60,7 @@ pub fn answer_next(
     requires { ⌜ Ready s shape (arrays (now lengths) (now bytes) (now superblocks) (now blocks)) (now starts) × (2 * i + 1 < length (now answers)) ⌝ }
     ensures { λ r. ⌜ (r ≡ i + 1) × (now (answers .exit) ≡ written (pairOf (questionAnswer (shape .vocabulary) (textIn s (arrays (now (lengths .entry)) (now (bytes .entry)) (now (superblocks .entry)) (now (blocks .entry)))) (now (words .entry)) question)) (2 * i) (now (answers .entry))) ⌝ }
 {
-    let answer = questions::answering::answer(
+    let answer = answering::answer(
         s,
         shape,
         lengths,

@@ -166,7 +166,7 @@ impl SmallIndex {
         let bytes = self.bytes;
         let superblocks = self.superblocks;
         let blocks = self.blocks;
-        questions::ask(
+        asking::ask(
             self.shape,
             front(&lengths, self.sizes.nodes),
             front_bytes(&bytes, self.sizes.bytes),
@@ -186,7 +186,7 @@ impl SmallIndex {
         let bytes = self.bytes;
         let superblocks = self.superblocks;
         let blocks = self.blocks;
-        questions::passage(
+        asking::passage(
             self.shape,
             front(&lengths, self.sizes.nodes),
             front_bytes(&bytes, self.sizes.bytes),

@@ -6,6 +6,7 @@ use native.Mathlib.Nat.{div-le-self}
 use native.Mathlib.Omega.{arith}
 use lib.ListN.{length, take, getD, length-take, length-map}
 use Rattle.base.specs.Lists.{Below, countOf, nth}
+use Rattle.base.specs.Texts.{maxWords}
 use Rattle.base.proofs.Lists.{all-at, below-weaken, getD-map}
 use Rattle.base.proofs.Segments.{segment-element}
 use Rattle.base.proofs.Sums.{total-take-suc, total-take-whole}
@@ -38,6 +39,10 @@ module _ {s : ℕ} {shape : Shape} {a : Arrays} (checked : Checked s shape a) wh
   pub text-size : length (textIn s a) ≡ length (nodeIn a 0)
   unfolding textIn
   text-size = length-of-text s (checked .closing) (shape .vocabulary) (checked .limits .mostWords) (nodesIn a) (checked-tested checked .good)
+
+  -- it is short enough to count
+  pub text-most : length (textIn s a) ≤ maxWords
+  text-most = rw text-size (checked-tested checked .short)
 
   -- all ranks are below V
   pub ranks-below : Below (shape .vocabulary) (textIn s a)

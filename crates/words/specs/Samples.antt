@@ -2,11 +2,8 @@
 use Prim.Native.Nat.{ℕ}
 use mathlib.Core.Path.{_≡_}
 use mathlib.Core.List.{List, [], _∷_, map}
+use Rattle.dense.specs.Samples.{sampleText}
 use Rattle.words.specs.Words.{rankAt, occurrencesBelow, frequency, nthPlace}
-
--- the text of paper 01's sample
-abbrev pub sampleText : List ℕ
-sampleText = 0 ∷ 128 ∷ 0 ∷ 129 ∷ 128 ∷ []
 
 pub record WordSamples : Type 0 where
   -- of paper 01: 128 stands once below 4, and for the second time at 4

@@ -10,7 +10,7 @@ ghost use Prim.Native.Nat.{_≤_, _<_};
 ghost use lib.ListN.{length, getD, take};
 ghost use Rattle.base.specs.Lists.{countOf, nth};
 ghost use Rattle.tree.specs.Nodes.{position};
-ghost use Rattle.index.specs.Arrays.{arrays, textIn};
+ghost use Rattle.index.specs.Arrays.{Arrays, arrays, textIn};
 ghost use Rattle.words.specs.Words.{rankAt, occurrencesBelow, frequency};
 ghost use Rattle.words.specs.Ready.{nodeFrom, Counted, Ready, WordsOf};
 ghost use Rattle.words.specs.Ways.{StepIn, WayOf};
@@ -91,7 +91,7 @@ fn step_in(
 }
 
 // What a step finds: a position in its node, and the superblock row in which it lies.
-struct Found {
+struct Located {
     at: Position,
     superblock: usize,
 }
@@ -107,7 +107,7 @@ fn nth_in_node(
     step: Step,
     j: usize,
     near: usize,
-) -> Found
+) -> Located
     requires { ⌜ Counted shape (now bytes) (now superblocks) (now blocks) (now starts) (step .node) × StepIn (now bytes) (now starts) (step .node) (step .byte) step × (j < countOf (step .byte) (nodeFrom (now bytes) (now starts) (step .node))) ⌝ }
     ensures { λ r. ⌜ r .at .0 ≡ nth (step .byte) j (nodeFrom (now (bytes .entry)) (now (starts .entry)) (step .node)) ⌝ }
 {
@@ -119,7 +119,7 @@ fn nth_in_node(
     let ordinal = step.skipped + j;
     let found = directory::nth(bytes, superblocks, blocks, block, per, byte, ordinal, near);
     let at = found.at - start;
-    Found {
+    Located {
         at: Position(at),
         superblock: found.superblock,
     }
@@ -137,8 +137,10 @@ fn position_in(
     node: usize,
     place: Place,
 ) -> Position
-    requires { ⌜ Ready s shape (arrays (now lengths) (now bytes) (now superblocks) (now blocks)) (now starts) × (node < length (now lengths)) × (place .0 ≤ length (textIn s (arrays (now lengths) (now bytes) (now superblocks) (now blocks)))) ⌝ }
-    ensures { λ r. ⌜ r .0 ≡ position s node (place .0) (textIn s (arrays (now (lengths .entry)) (now (bytes .entry)) (now (superblocks .entry)) (now (blocks .entry)))) ⌝ }
+    ghost { Arrays }
+    requires { λ a. ⌜ arrays (now lengths) (now bytes) (now superblocks) (now blocks) ≡ a ⌝ }
+    requires { λ a. ⌜ Ready s shape a (now starts) × (node < length (now lengths)) × (place .0 ≤ length (textIn s a)) ⌝ }
+    ensures { λ a r. ⌜ r .0 ≡ position s node (place .0) (textIn s a) ⌝ }
 {
     if node == 0 {
         return tree::root_position(place);
@@ -170,8 +172,10 @@ pub fn word_at(
     starts: &[u32],
     place: Place,
 ) -> u32
-    requires { ⌜ Ready s shape (arrays (now lengths) (now bytes) (now superblocks) (now blocks)) (now starts) × (place .0 < length (textIn s (arrays (now lengths) (now bytes) (now superblocks) (now blocks)))) ⌝ }
-    ensures { λ r. ⌜ r ≡ rankAt (textIn s (arrays (now (lengths .entry)) (now (bytes .entry)) (now (superblocks .entry)) (now (blocks .entry)))) (place .0) ⌝ }
+    ghost { Arrays }
+    requires { λ a. ⌜ arrays (now lengths) (now bytes) (now superblocks) (now blocks) ≡ a ⌝ }
+    requires { λ a. ⌜ Ready s shape a (now starts) × (place .0 < length (textIn s a)) ⌝ }
+    ensures { λ a r. ⌜ r ≡ rankAt (textIn s a) (place .0) ⌝ }
 {
     let least = 256 - s;
     let mut node = 0;
@@ -199,8 +203,10 @@ pub fn occurrences_below(
     rank: usize,
     place: Place,
 ) -> usize
-    requires { ⌜ Ready s shape (arrays (now lengths) (now bytes) (now superblocks) (now blocks)) (now starts) × (rank < shape .vocabulary) × (place .0 ≤ length (textIn s (arrays (now lengths) (now bytes) (now superblocks) (now blocks)))) ⌝ }
-    ensures { λ r. ⌜ r ≡ occurrencesBelow (textIn s (arrays (now (lengths .entry)) (now (bytes .entry)) (now (superblocks .entry)) (now (blocks .entry)))) rank (place .0) ⌝ }
+    ghost { Arrays }
+    requires { λ a. ⌜ arrays (now lengths) (now bytes) (now superblocks) (now blocks) ≡ a ⌝ }
+    requires { λ a. ⌜ Ready s shape a (now starts) × (rank < shape .vocabulary) × (place .0 ≤ length (textIn s a)) ⌝ }
+    ensures { λ a r. ⌜ r ≡ occurrencesBelow (textIn s a) rank (place .0) ⌝ }
 {
     let node = tree::node_of(s, rank);
     let byte = tree::closing_byte(s, rank);
@@ -229,8 +235,10 @@ pub fn frequency(
     starts: &[u32],
     rank: usize,
 ) -> usize
-    requires { ⌜ Ready s shape (arrays (now lengths) (now bytes) (now superblocks) (now blocks)) (now starts) × (rank < shape .vocabulary) ⌝ }
-    ensures { λ r. ⌜ r ≡ frequency (textIn s (arrays (now (lengths .entry)) (now (bytes .entry)) (now (superblocks .entry)) (now (blocks .entry)))) rank ⌝ }
+    ghost { Arrays }
+    requires { λ a. ⌜ arrays (now lengths) (now bytes) (now superblocks) (now blocks) ≡ a ⌝ }
+    requires { λ a. ⌜ Ready s shape a (now starts) × (rank < shape .vocabulary) ⌝ }
+    ensures { λ a r. ⌜ r ≡ frequency (textIn s a) rank ⌝ }
 {
     let node = tree::node_of(s, rank);
     let byte = tree::closing_byte(s, rank);
@@ -260,8 +268,10 @@ pub fn way_of(
     starts: &[u32],
     rank: usize,
 ) -> Way
-    requires { ⌜ Ready s shape (arrays (now lengths) (now bytes) (now superblocks) (now blocks)) (now starts) × (rank < shape .vocabulary) ⌝ }
-    ensures { λ r. ⌜ WayOf s (now (bytes .entry)) (now (starts .entry)) rank r ⌝ }
+    ghost { Arrays }
+    requires { λ a. ⌜ arrays (now lengths) (now bytes) (now superblocks) (now blocks) ≡ a ⌝ }
+    requires { λ a. ⌜ Ready s shape a (now starts) × (rank < shape .vocabulary) ⌝ }
+    ensures { λ a r. ⌜ WayOf s (a .bytes) (now (starts .entry)) rank r ⌝ }
 {
     let node = tree::node_of(s, rank);
     let byte = tree::closing_byte(s, rank);
@@ -335,8 +345,10 @@ pub fn place_along(
     near: Near,
     j: usize,
 ) -> Next
-    requires { ⌜ Ready s shape (arrays (now lengths) (now bytes) (now superblocks) (now blocks)) (now starts) × (rank < shape .vocabulary) × WayOf s (now bytes) (now starts) rank way × (j < frequency (textIn s (arrays (now lengths) (now bytes) (now superblocks) (now blocks))) rank) ⌝ }
-    ensures { λ r. ⌜ r .place .0 ≡ nth rank j (textIn s (arrays (now (lengths .entry)) (now (bytes .entry)) (now (superblocks .entry)) (now (blocks .entry)))) ⌝ }
+    ghost { Arrays }
+    requires { λ a. ⌜ arrays (now lengths) (now bytes) (now superblocks) (now blocks) ≡ a ⌝ }
+    requires { λ a. ⌜ Ready s shape a (now starts) × (rank < shape .vocabulary) × WayOf s (a .bytes) (now starts) rank way × (j < frequency (textIn s a) rank) ⌝ }
+    ensures { λ a r. ⌜ r .place .0 ≡ nth rank j (textIn s a) ⌝ }
 {
     let first = way.first;
     let low = nth_in_node(
@@ -413,8 +425,10 @@ pub fn place_of(
     rank: usize,
     j: usize,
 ) -> Place
-    requires { ⌜ Ready s shape (arrays (now lengths) (now bytes) (now superblocks) (now blocks)) (now starts) × (rank < shape .vocabulary) × (j < frequency (textIn s (arrays (now lengths) (now bytes) (now superblocks) (now blocks))) rank) ⌝ }
-    ensures { λ r. ⌜ r .0 ≡ nth rank j (textIn s (arrays (now (lengths .entry)) (now (bytes .entry)) (now (superblocks .entry)) (now (blocks .entry)))) ⌝ }
+    ghost { Arrays }
+    requires { λ a. ⌜ arrays (now lengths) (now bytes) (now superblocks) (now blocks) ≡ a ⌝ }
+    requires { λ a. ⌜ Ready s shape a (now starts) × (rank < shape .vocabulary) × (j < frequency (textIn s a) rank) ⌝ }
+    ensures { λ a r. ⌜ r .0 ≡ nth rank j (textIn s a) ⌝ }
 {
     let way = way_of(s, shape, lengths, bytes, superblocks, blocks, starts, rank);
     let near = nowhere(superblocks);

@@ -21,7 +21,7 @@ returns : tie.Need-returns
 returns c =
     let st = c .before .before .before .before in
     let some : phraseRefusal (st .args .vocabulary) (st .args .words .now) (st .args .start) (st .args .count) ≡ 0 → ⊥ = λ e. c .before .if1 .taken (c .before .before .phrase-refusal .ensures ∙ e) in
-    c .refused .ensures ∙ ap refused (c .before .before .phrase-refusal .ensures) ∙ sym (request-phrase (st .args .vocabulary) (st .args .words .now) (st .args .start) (st .args .count) (st .args .length) (st .args .next) (st .args .room) some)
+    c .refused .ensures ∙ ap refused (c .before .before .phrase-refusal .ensures) ∙ sym (request-phrase (st .args .vocabulary) (st .args .words .now) (st .args .start) (st .args .count) (st .args .n) (st .args .next) (st .args .room) some)
 
 refused-requires-2 : tie.Need-refused-requires-2
 refused-requires-2 c κs = search needs
@@ -29,7 +29,7 @@ refused-requires-2 c κs = search needs
 returns-2 : tie.Need-returns-2
 returns-2 c =
     let st = c .before .before .before .before .before in
-    c .refused2 .ensures ∙ sym (request-place (st .args .vocabulary) (st .args .words .now) (st .args .start) (st .args .count) (st .args .length) (st .args .next) (st .args .room) (whole (c .before .before)) (c .before .if2 .taken))
+    c .refused2 .ensures ∙ sym (request-place (st .args .vocabulary) (st .args .words .now) (st .args .start) (st .args .count) (st .args .n) (st .args .next) (st .args .room) (whole (c .before .before)) (c .before .if2 .taken))
 
 refused-requires-3 : tie.Need-refused-requires-3
 refused-requires-3 c κs = search needs
@@ -37,7 +37,7 @@ refused-requires-3 c κs = search needs
 returns-3 : tie.Need-returns-3
 returns-3 c =
     let st = c .before .before .before .before .before .before in
-    c .refused3 .ensures ∙ sym (request-page (st .args .vocabulary) (st .args .words .now) (st .args .start) (st .args .count) (st .args .length) (st .args .next) (st .args .room) (whole (c .before .before .before)) (c .before .before .if2 .left) (c .before .if3 .taken))
+    c .refused3 .ensures ∙ sym (request-page (st .args .vocabulary) (st .args .words .now) (st .args .start) (st .args .count) (st .args .n) (st .args .next) (st .args .room) (whole (c .before .before .before)) (c .before .before .if2 .left) (c .before .if3 .taken))
 
 accepted-requires : tie.Need-accepted-requires
 accepted-requires c κs = search needs
@@ -45,7 +45,7 @@ accepted-requires c κs = search needs
 returns-4 : tie.Need-returns-4
 returns-4 c =
     let st = c .before .before .before .before .before .before in
-    c .accepted .ensures ∙ sym (request-none (st .args .vocabulary) (st .args .words .now) (st .args .start) (st .args .count) (st .args .length) (st .args .next) (st .args .room) (whole (c .before .before .before)) (c .before .before .if2 .left) (c .before .if3 .left))
+    c .accepted .ensures ∙ sym (request-none (st .args .vocabulary) (st .args .words .now) (st .args .start) (st .args .count) (st .args .n) (st .args .next) (st .args .room) (whole (c .before .before .before)) (c .before .before .if2 .left) (c .before .if3 .left))
 
 pub request-answer-spec : {M : Type 1} → statement M
 request-answer-spec =

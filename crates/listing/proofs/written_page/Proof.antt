@@ -11,7 +11,7 @@ use Rattle.words.specs.Ready.{Checked}
 use Rattle.words.proofs.Parts.{accepted-checked, checked-most, checked-total}
 use Rattle.phrases.specs.Phrases.{stands}
 use Rattle.pages.specs.Pages.{HitPage, pageOver}
-use Rattle.searches.specs.Searching.{writtenOf}
+use Rattle.paging.specs.Written.{writtenOf}
 use Rattle.questions.specs.Answering.{phraseIn}
 use Rattle.questions.proofs.Answered.{PhraseFits, phrase-fits, part-length}
 use Rattle.listing.specs.Paging.{Call, callOf, callPage}

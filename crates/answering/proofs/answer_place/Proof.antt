@@ -1,0 +1,68 @@
+-- `answering::answer_place` meets its contract: the rank is tested, then the number against its frequency. Assumes nothing.
+use mathlib.Core.Path.{sym, ap, _∙_}
+use native.Mathlib.Omega.{arith}
+use borrow.Author.Needs.{needs}
+use Rattle.index.specs.Arrays.{arrays, textIn}
+use Rattle.base.specs.Answers.{accepted, refused}
+use Rattle.questions.proofs.Answered.{place-rank, place-outside, place-inside}
+use Rattle.words.specs.Words.{frequency}
+use Rattle.base.proofs.Tests.{below-range, above-range}
+use Rattle.answering.proofs.answer_place.Statement.{statement}
+use Rattle.answering.proofs.answer_place.Tie as tie
+
+refused-requires : tie.Need-refused-requires
+refused-requires c κs = search needs
+
+returns : tie.Need-returns
+returns c =
+    let st = c .before .before .before .before .before .before .before .before in
+    let t = textIn (st .args .s) (arrays (st .args .lengths .now) (st .args .bytes .now) (st .args .superblocks .now) (st .args .blocks .now)) in
+    c .refused .ensures ∙ sym (place-rank (st .args .shape .vocabulary) t (st .args .rank) (st .args .p) (c .before .if1 .taken))
+
+refused-requires-2 : tie.Need-refused-requires-2
+refused-requires-2 c κs = search needs
+
+returns-2 : tie.Need-returns-2
+returns-2 c =
+    let st = c .before .before .before .before .before .before .before .before .before in
+    let t = textIn (st .args .s) (arrays (st .args .lengths .now) (st .args .bytes .now) (st .args .superblocks .now) (st .args .blocks .now)) in
+    c .refused2 .ensures ∙ sym (place-outside (st .args .shape .vocabulary) t (st .args .rank) (st .args .p) (c .before .before .if1 .left) (below-range 1 (frequency t (st .args .rank)) (st .args .p) (c .before .if2 .taken)))
+
+frequency-requires : tie.Need-frequency-requires
+frequency-requires c κs = search needs
+
+refused-requires-3 : tie.Need-refused-requires-3
+refused-requires-3 c κs = search needs
+
+returns-3 : tie.Need-returns-3
+returns-3 c =
+    let st = c .before .before .before .before .before .before .before .before .before .before .before in
+    let t = textIn (st .args .s) (arrays (st .args .lengths .now) (st .args .bytes .now) (st .args .superblocks .now) (st .args .blocks .now)) in
+    c .refused3 .ensures ∙ sym (place-outside (st .args .shape .vocabulary) t (st .args .rank) (st .args .p) (c .before .before .before .before .if1 .left) (above-range 1 (frequency t (st .args .rank)) (st .args .p) (omega (arith, c .before .before .frequency .ensures, c .before .if3 .taken))))
+
+place-of-requires : tie.Need-place-of-requires
+place-of-requires c κs = search needs
+
+accepted-requires : tie.Need-accepted-requires
+accepted-requires c κs = search needs
+
+returns-4 : tie.Need-returns-4
+returns-4 c =
+    let st = c .before .before .before .before .before .before .before .before .before .before .before .before in
+    let t = textIn (st .args .s) (arrays (st .args .lengths .now) (st .args .bytes .now) (st .args .superblocks .now) (st .args .blocks .now)) in
+    c .accepted .ensures ∙ ap accepted (c .before .place-of .ensures) ∙ sym (place-inside (st .args .shape .vocabulary) t (st .args .rank) (st .args .p) (c .before .before .before .before .before .if1 .left) (c .before .before .before .before .if2 .left) (omega (arith, c .before .before .before .frequency .ensures, c .before .before .if3 .left)))
+
+pub answer-place-spec : {M : Type 1} → statement M
+answer-place-spec =
+    tie.close
+    (tie.spec
+    refused-requires
+    returns
+    refused-requires-2
+    returns-2
+    frequency-requires
+    refused-requires-3
+    returns-3
+    place-of-requires
+    accepted-requires
+    returns-4)

@@ -1,0 +1,290 @@
+// The answers to questions about an index that has passed the check, kind by kind.
+//
+// No function of this crate is an entry: each requires what its callers have tested.
+ghost use mathlib.Core.Path.{_≡_};
+ghost use Rattle.index.specs.Arrays.{Arrays, arrays, textIn};
+ghost use Rattle.words.specs.Ready.{Ready};
+ghost use Rattle.questions.specs.Answering.{phraseRefusal, wordAtAnswer, occurrencesAnswer, placeAnswer, neighboursAnswer, phraseAnswer, questionAnswer};
+use base::Answer;
+use base::refusal;
+use index::Shape;
+use questions::Question;
+use tree::Place;
+
+// The offset runs from -MAX_OFFSET to MAX_OFFSET.
+const MAX_OFFSET: i32 = 16;
+
+// A phrase has 1 to MAX_PHRASE words.
+const MAX_PHRASE: usize = 16;
+
+// Kind 1: the rank at a place.
+fn answer_word_at(
+    s: usize,
+    shape: Shape,
+    lengths: &[u32],
+    bytes: &[u8],
+    superblocks: &[u32],
+    blocks: &[u16],
+    starts: &[u32],
+    place: usize,
+) -> Answer
+    ghost { Arrays }
+    requires { λ a. ⌜ arrays (now lengths) (now bytes) (now superblocks) (now blocks) ≡ a ⌝ }
+    requires { λ a. ⌜ Ready s shape a (now starts) ⌝ }
+    ensures { λ a r. ⌜ r ≡ wordAtAnswer (textIn s a) place ⌝ }
+{
+    if words::text_length(lengths) <= place {
+        return Answer::refused(refusal::PLACE);
+    }
+    let rank = words::word_at(
+        s,
+        shape,
+        lengths,
+        bytes,
+        superblocks,
+        blocks,
+        starts,
+        Place(place),
+    );
+    Answer::accepted(rank as usize)
+}
+
+// Kind 2: how often a rank stands at places below a place.
+fn answer_occurrences(
+    s: usize,
+    shape: Shape,
+    lengths: &[u32],
+    bytes: &[u8],
+    superblocks: &[u32],
+    blocks: &[u16],
+    starts: &[u32],
+    rank: usize,
+    place: usize,
+) -> Answer
+    ghost { Arrays }
+    requires { λ a. ⌜ arrays (now lengths) (now bytes) (now superblocks) (now blocks) ≡ a ⌝ }
+    requires { λ a. ⌜ Ready s shape a (now starts) ⌝ }
+    ensures { λ a r. ⌜ r ≡ occurrencesAnswer (shape .vocabulary) (textIn s a) rank place ⌝ }
+{
+    if shape.vocabulary <= rank {
+        return Answer::refused(refusal::ASKED_RANK);
+    }
+    if words::text_length(lengths) < place {
+        return Answer::refused(refusal::PLACE);
+    }
+    Answer::accepted(words::occurrences_below(
+        s,
+        shape,
+        lengths,
+        bytes,
+        superblocks,
+        blocks,
+        starts,
+        rank,
+        Place(place),
+    ))
+}
+
+// Kind 3: the place of the p-th of a rank, counted from 1.
+fn answer_place(
+    s: usize,
+    shape: Shape,
+    lengths: &[u32],
+    bytes: &[u8],
+    superblocks: &[u32],
+    blocks: &[u16],
+    starts: &[u32],
+    rank: usize,
+    p: usize,
+) -> Answer
+    ghost { Arrays }
+    requires { λ a. ⌜ arrays (now lengths) (now bytes) (now superblocks) (now blocks) ≡ a ⌝ }
+    requires { λ a. ⌜ Ready s shape a (now starts) ⌝ }
+    ensures { λ a r. ⌜ r ≡ placeAnswer (shape .vocabulary) (textIn s a) rank p ⌝ }
+{
+    if shape.vocabulary <= rank {
+        return Answer::refused(refusal::ASKED_RANK);
+    }
+    if p < 1 {
+        return Answer::refused(refusal::PLACE);
+    }
+    if words::frequency(s, shape, lengths, bytes, superblocks, blocks, starts, rank) < p {
+        return Answer::refused(refusal::PLACE);
+    }
+    let place = words::place_of(
+        s,
+        shape,
+        lengths,
+        bytes,
+        superblocks,
+        blocks,
+        starts,
+        rank,
+        p - 1,
+    );
+    Answer::accepted(place.0)
+}
+
+// Kind 4: how often a word has another at an offset.
+fn answer_neighbours(
+    s: usize,
+    shape: Shape,
+    lengths: &[u32],
+    bytes: &[u8],
+    superblocks: &[u32],
+    blocks: &[u16],
+    starts: &[u32],
+    w: u32,
+    v: u32,
+    offset: i32,
+) -> Answer
+    ghost { Arrays }
+    requires { λ a. ⌜ arrays (now lengths) (now bytes) (now superblocks) (now blocks) ≡ a ⌝ }
+    requires { λ a. ⌜ Ready s shape a (now starts) ⌝ }
+    ensures { λ a r. ⌜ r ≡ neighboursAnswer (shape .vocabulary) (textIn s a) w v offset ⌝ }
+{
+    if shape.vocabulary <= w as usize {
+        return Answer::refused(refusal::ASKED_RANK);
+    }
+    if shape.vocabulary <= v as usize {
+        return Answer::refused(refusal::ASKED_RANK);
+    }
+    if offset < -MAX_OFFSET {
+        return Answer::refused(refusal::OFFSET);
+    }
+    if MAX_OFFSET < offset {
+        return Answer::refused(refusal::OFFSET);
+    }
+    Answer::accepted(counts::neighbours(
+        s,
+        shape,
+        lengths,
+        bytes,
+        superblocks,
+        blocks,
+        starts,
+        w,
+        v,
+        offset,
+    ))
+}
+
+// The number of the refusal of a phrase, 8 or 9; 0 where its part lies in the lent words, has 1 to
+// 16 of them, and all are below the vocabulary's size.
+pub fn phrase_refusal(vocabulary: usize, words: &[u32], start: usize, count: usize) -> u32
+    ensures { λ r. ⌜ r ≡ phraseRefusal vocabulary (now (words .entry)) start count ⌝ }
+{
+    if count < 1 {
+        return refusal::PHRASE;
+    }
+    if MAX_PHRASE < count {
+        return refusal::PHRASE;
+    }
+    if words.len() < start {
+        return refusal::PHRASE;
+    }
+    if words.len() - start < count {
+        return refusal::PHRASE;
+    }
+    let end = start + count;
+    let place = base::first_outside(&words[start..end], vocabulary);
+    if place < count {
+        return refusal::ASKED_RANK;
+    }
+    0
+}
+
+// Kind 5: how often a phrase stands.
+fn answer_phrase(
+    s: usize,
+    shape: Shape,
+    lengths: &[u32],
+    bytes: &[u8],
+    superblocks: &[u32],
+    blocks: &[u16],
+    starts: &[u32],
+    words: &[u32],
+    start: usize,
+    count: usize,
+) -> Answer
+    ghost { Arrays }
+    requires { λ a. ⌜ arrays (now lengths) (now bytes) (now superblocks) (now blocks) ≡ a ⌝ }
+    requires { λ a. ⌜ Ready s shape a (now starts) ⌝ }
+    ensures { λ a r. ⌜ r ≡ phraseAnswer (shape .vocabulary) (textIn s a) (now (words .entry)) start count ⌝ }
+{
+    let refused = phrase_refusal(shape.vocabulary, words, start, count);
+    if refused != 0 {
+        return Answer::refused(refused);
+    }
+    let end = start + count;
+    Answer::accepted(counts::count_phrase(
+        s,
+        shape,
+        lengths,
+        bytes,
+        superblocks,
+        blocks,
+        starts,
+        &words[start..end],
+    ))
+}
+
+// The answer to a question, by its kind.
+pub fn answer(
+    s: usize,
+    shape: Shape,
+    lengths: &[u32],
+    bytes: &[u8],
+    superblocks: &[u32],
+    blocks: &[u16],
+    starts: &[u32],
+    words: &[u32],
+    question: Question,
+) -> Answer
+    ghost { Arrays }
+    requires { λ a. ⌜ arrays (now lengths) (now bytes) (now superblocks) (now blocks) ≡ a ⌝ }
+    requires { λ a. ⌜ Ready s shape a (now starts) ⌝ }
+    ensures { λ a r. ⌜ r ≡ questionAnswer (shape .vocabulary) (textIn s a) (now (words .entry)) question ⌝ }
+{
+    let kind = question.kind;
+    let w = question.w as usize;
+    let p = question.p;
+    if kind == 1 {
+        return answer_word_at(s, shape, lengths, bytes, superblocks, blocks, starts, p);
+    }
+    if kind == 2 {
+        return answer_occurrences(s, shape, lengths, bytes, superblocks, blocks, starts, w, p);
+    }
+    if kind == 3 {
+        return answer_place(s, shape, lengths, bytes, superblocks, blocks, starts, w, p);
+    }
+    if kind == 4 {
+        return answer_neighbours(
+            s,
+            shape,
+            lengths,
+            bytes,
+            superblocks,
+            blocks,
+            starts,
+            question.w,
+            question.v,
+            question.d,
+        );
+    }
+    if kind == 5 {
+        return answer_phrase(
+            s,
+            shape,
+            lengths,
+            bytes,
+            superblocks,
+            blocks,
+            starts,
+            words,
+            question.start,
+            question.length,
+        );
+    }
+    Answer::refused(refusal::KIND)
+}

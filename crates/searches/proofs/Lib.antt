@@ -1,3 +1,0 @@
-pub mod Readied
-pub mod Candidates
-pub mod FirstBytes
