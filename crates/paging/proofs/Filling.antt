@@ -8,8 +8,7 @@ use native.Mathlib.Omega.{arith}
 use lib.ListN.{length, set}
 use Rattle.base.specs.Answers.{front}
 use Rattle.tree.specs.declared.Place.{Place}
-use Rattle.pages.specs.Pages
-use Rattle.pages.specs.Pages.{pageOver}
+use Rattle.pages.specs.Pages.{HitPage, pageOver}
 use Rattle.pages.proofs.Pages.{page-full, page-last}
 use Rattle.pages.proofs.Filling.{Filled, filled-none, filled-more, filled-length}
 use Rattle.pages.proofs.Searching.{Made, made-full, made-end}

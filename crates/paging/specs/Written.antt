@@ -3,7 +3,7 @@ use Prim.Native.Nat.{ℕ, _+_}
 use mathlib.Core.Bool.{true, false}
 use lib.ListN.{length}
 use Rattle.tree.specs.declared.Place.{Place}
-use Rattle.pages.specs.Pages
+use Rattle.pages.specs.Pages.{HitPage}
 use Rattle.paging.specs.declared.Written.{Written}
 
 -- what a page over an unfinished state comes to: the number of its hits, "more", and the state after it
