@@ -2,7 +2,7 @@
 use Prim.Native.Nat.{ℕ}
 use mathlib.Core.Path.{_≡_}
 use mathlib.Core.List.{List, [], _∷_, map}
-use Rattle.dense.specs.Samples.{sampleText}
+use Rattle.base.specs.Samples.{sampleText}
 use Rattle.words.specs.Words.{rankAt, occurrencesBelow, frequency, nthPlace}
 
 pub record WordSamples : Type 0 where
