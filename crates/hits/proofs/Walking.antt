@@ -11,7 +11,7 @@ use Rattle.base.specs.Lists.{countOf, nth}
 use Rattle.base.proofs.Tests.{below-or-not, false-of}
 use Rattle.base.proofs.Counts.{Found, nth-found, nth-here, count-hit, count-take-rises, count-take-less}
 use Rattle.phrases.specs.Anchors.{Anchored, candidate, firstCandidate}
-use Rattle.phrases.proofs.Anchors.{candidate-after, candidate-before, first-most}
+use Rattle.phrases.proofs.Anchors.{candidate-after, first-most}
 use Rattle.hits.specs.declared.Hit.the-variants.{At, Nowhere}
 use Rattle.hits.specs.Hits.{leastHit}
 use Rattle.hits.proofs.Least.{least-found, least-none}
@@ -46,7 +46,7 @@ module _ (t : List ℕ) (w i : ℕ) (P : ℕ → Bool) (a : Anchored t w i P) (f
     pub passed-all : countOf w t ≤ j → (leastHit P from end ≡ Nowhere) × (j ≡ firstCandidate t w i end)
     passed-all h = (
       least-none P from end (λ p l u. false-of (P p) (λ e.
-      false≢true (sym (c .none p l (omega (arith, count-take-less w t (p + i) (a .inside p e) (a .word p e)))) ∙ e))),
+          false≢true (sym (c .none p l (omega (arith, count-take-less w t (p + i) (a .inside p e) (a .word p e)))) ∙ e))),
       omega (arith, c .before, first-most t w i end),
     )
 
@@ -84,7 +84,7 @@ module _ (t : List ℕ) (w i : ℕ) (P : ℕ → Bool) (a : Anchored t w i P) (f
       pub passed-end : end ≤ candidate t w i j → (leastHit P from end ≡ Nowhere) × (j ≡ firstCandidate t w i end)
       passed-end h = (
         least-none P from end (λ p l u. false-of (P p) (λ e.
-        false≢true (sym (c .none p l (omega (arith, number-next p e, candidate-number, count-take-rises w (p + 1 + i) (candidate t w i j + i) t (omega arith)))) ∙ e))),
+            false≢true (sym (c .none p l (omega (arith, number-next p e, candidate-number, count-take-rises w (p + 1 + i) (candidate t w i j + i) t (omega arith)))) ∙ e))),
         omega (arith, c .before, candidate-number, count-take-rises w (end + i) (candidate t w i j + i) t (omega arith)),
       )
 
@@ -97,7 +97,7 @@ module _ (t : List ℕ) (w i : ℕ) (P : ℕ → Bool) (a : Anchored t w i P) (f
             → (leastHit P from end ≡ At (record { 0 = candidate t w i j })) × (j + 1 ≡ firstCandidate t w i (candidate t w i j + 1))
         passed-hit e = (
           least-found P from end (candidate t w i j) candidate-from low e (λ p l u. false-of (P p) (λ g.
-          false≢true (sym (c .none p l (omega (arith, number-next p g, candidate-number, count-take-rises w (p + 1 + i) (candidate t w i j + i) t (omega arith)))) ∙ g))),
+              false≢true (sym (c .none p l (omega (arith, number-next p g, candidate-number, count-take-rises w (p + 1 + i) (candidate t w i j + i) t (omega arith)))) ∙ g))),
           omega (arith, candidate-next),
         )
 

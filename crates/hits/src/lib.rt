@@ -8,7 +8,6 @@
 // and `starts` is the table that `starts::node_starts` fills.
 ghost use mathlib.Core.Path.{_≡_};
 ghost use Prim.Native.Nat.{_+_, _≤_, _<_};
-ghost use lib.ListN.{length};
 ghost use Rattle.base.specs.Texts.{maxWords};
 ghost use Rattle.index.specs.Arrays.{Arrays, arrays, textIn};
 ghost use Rattle.words.specs.Words.{occurrencesBelow};

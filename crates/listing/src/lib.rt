@@ -174,15 +174,7 @@ pub fn page_of(
     }
     let n = words::text_length(lengths);
     let room = lines.len();
-    let request = request_answer(
-        shape.vocabulary,
-        words,
-        start,
-        count,
-        n,
-        state.next,
-        room,
-    );
+    let request = request_answer(shape.vocabulary, words, start, count, n, state.next, room);
     if request.refusal != 0 {
         return Page::unwritten(request, state);
     }

@@ -48,16 +48,7 @@ fn agrees_at(
     requires { λ a. ⌜ Ready s shape a (now starts) × (place .0 < length (textIn s a)) ⌝ }
     ensures { λ a r. ⌜ r ≡ eqb (rankAt (textIn s a) (place .0)) rank ⌝ }
 {
-    let found = words::word_at(
-        s,
-        shape,
-        lengths,
-        bytes,
-        superblocks,
-        blocks,
-        starts,
-        place,
-    );
+    let found = words::word_at(s, shape, lengths, bytes, superblocks, blocks, starts, place);
     found as usize == rank
 }
 

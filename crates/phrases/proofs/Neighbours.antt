@@ -1,23 +1,19 @@
--- Neighbours, counted along the occurrences of one of the two words. Assumes nothing.
-use Prim.Native.Nat.{ℕ, _+_, _-_, _<_}
-use mathlib.Core.Path.{_≡_, refl, ap, _∙_}
+-- Where a pair of words stands: its anchor, and its second word at the moved place. Assumes nothing.
+use Prim.Native.Nat.{ℕ, _+_, _<_}
+use mathlib.Core.Path.{_≡_, refl, ap}
 use mathlib.Core.Bool.{Bool, true, false, cond, _&&_}
-use mathlib.Core.List.{List, map}
-use native.Mathlib.Nat.{sub-zero}
+use mathlib.Core.List.{List}
 use native.Mathlib.Omega.{arith}
 use borrow.Author.Tests.{ltb-true, lt-ltb, eqb-true, eq-eqb}
 use lib.Dec.{eqb, ltb}
 use lib.IntN.{ℤ, pos, negsuc, _+ℤ_}
 use lib.ListN.{length, getD}
-use Rattle.base.specs.Lists.{filterBy, rangeFrom, countOf, nth}
 use Rattle.base.proofs.Tests.{and-left, and-right}
-use Rattle.base.proofs.Ranges.{map-range-same}
 use Rattle.tree.specs.declared.Place.{Place}
 use Rattle.phrases.specs.declared.Found.the-variants.{At, Outside}
-use Rattle.phrases.specs.Neighbours.{standsAt, neighbourAt, neighbours}
+use Rattle.phrases.specs.Neighbours.{standsAt, neighbourAt}
 use Rattle.phrases.specs.Offsets.{foundAt, placeWithin, shiftedOf}
-use Rattle.phrases.specs.Anchors.{Anchored, candidate, firstCandidate}
-use Rattle.phrases.proofs.Anchors.{candidates-between, first-past}
+use Rattle.phrases.specs.Anchors.{Anchored}
 
 -- a pair has its first word for an anchor
 pub neighbour-anchored : (t : List ℕ) (w v : ℕ) (d : ℤ) → Anchored t w 0 (neighbourAt t w v d)
@@ -31,19 +27,6 @@ neighbour-anchored t w v d = record { inside = λ q e. omega (arith, below q e);
     word q e =
         let z : q + 0 ≡ q = omega arith in
         rw z (eqb-true (getD t q 0) w (and-right (ltb q (length t)) (eqb (getD t q 0) w) (and-left (standsAt t w (pos q)) (standsAt t v (pos q +ℤ d)) e)))
-
--- the pairs of w and v, along the occurrences of w
-pub neighbours-along : (t : List ℕ) (w v : ℕ) (d : ℤ)
-    → neighbours t w v d ≡ length (filterBy (neighbourAt t w v d) (map (λ (j : ℕ). nth w j t) (rangeFrom 0 (countOf w t))))
-unfolding neighbours
-neighbours-along t w v d =
-    let P : ℕ → Bool = neighbourAt t w v d in
-    let z : 0 + 0 ≡ 0 = omega arith in
-    ap length
-    {y = filterBy P (map (λ (j : ℕ). nth w j t) (rangeFrom 0 (countOf w t)))}
-    (candidates-between t w 0 P (neighbour-anchored t w v d) 0 (length t)
-    ∙ ap (λ (m : ℕ). filterBy P (map (candidate t w 0) (rangeFrom (firstCandidate t w 0 0) (m - firstCandidate t w 0 0)))) (first-past t w 0 (0 + length t) (omega arith))
-    ∙ simp (z, sub-zero) (ap (filterBy P) (map-range-same (candidate t w 0) (λ (j : ℕ). nth w j t) (countOf w t) (λ j h. sub-zero (nth w j t)))))
 
 -- at a place with w, the place moved by the offset decides
 pub neighbour-test : (t : List ℕ) (w v : ℕ) (d : ℤ) (q : ℕ) → q < length t → getD t q 0 ≡ w → neighbourAt t w v d q ≡ standsAt t v (pos q +ℤ d)

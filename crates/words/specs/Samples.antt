@@ -1,7 +1,6 @@
 -- Statement: samples of kinds 1 to 3, at the edges of the text too.
-use Prim.Native.Nat.{ℕ}
 use mathlib.Core.Path.{_≡_}
-use mathlib.Core.List.{List, [], _∷_, map}
+use mathlib.Core.List.{[], _∷_, map}
 use Rattle.base.specs.Samples.{sampleText}
 use Rattle.words.specs.Words.{rankAt, occurrencesBelow, frequency, nthPlace}
 

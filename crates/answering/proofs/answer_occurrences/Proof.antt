@@ -3,7 +3,6 @@ use mathlib.Core.Path.{_≡_, sym, ap, _∙_}
 use native.Mathlib.Omega.{arith}
 use borrow.Author.Needs.{needs}
 use lib.ListN.{length}
-use Rattle.index.specs.Arrays.{arrays, textIn}
 use Rattle.words.proofs.Parts.{checked-some}
 use Rattle.base.specs.Answers.{accepted, refused}
 use Rattle.questions.proofs.Answered.{occurrences-rank, occurrences-outside, occurrences-inside}
@@ -16,8 +15,7 @@ refused-requires c κs = search needs
 returns : tie.Need-returns
 returns c =
     let st = c .before .before .before .before .before .before .before .before in
-    let t = textIn (st .args .s) (arrays (st .args .lengths .now) (st .args .bytes .now) (st .args .superblocks .now) (st .args .blocks .now)) in
-    c .refused .ensures ∙ sym (occurrences-rank (st .args .shape .vocabulary) t (st .args .rank) (st .args .place) (c .before .if1 .taken))
+    c .refused .ensures ∙ sym (occurrences-rank (st .args .shape .vocabulary) _ (st .args .rank) (st .args .place) (c .before .if1 .taken))
 
 text-length-requires : tie.Need-text-length-requires
 text-length-requires c κs = checked-some (c .before .before .before .before .before .before .before .pre .checked)
@@ -28,15 +26,13 @@ refused-requires-2 c κs = search needs
 returns-2 : tie.Need-returns-2
 returns-2 c =
     let st = c .before .before .before .before .before .before .before .before .before .before in
-    let t = textIn (st .args .s) (arrays (st .args .lengths .now) (st .args .bytes .now) (st .args .superblocks .now) (st .args .blocks .now)) in
-    let n : c .before .before .text-length .result ≡ length t = c .before .before .text-length .ensures .1 _ _ _ _ _ (st .pre .checked) in
-    c .refused2 .ensures ∙ sym (occurrences-outside (st .args .shape .vocabulary) t (st .args .rank) (st .args .place) (c .before .before .before .if1 .left) (omega (arith, n, c .before .if2 .taken)))
+    let n = c .before .before .text-length .ensures .1 _ _ _ _ _ (st .pre .checked) in
+    c .refused2 .ensures ∙ sym (occurrences-outside (st .args .shape .vocabulary) _ (st .args .rank) (st .args .place) (c .before .before .before .if1 .left) (omega (arith, n, c .before .if2 .taken)))
 
 occurrences-below-requires : tie.Need-occurrences-below-requires
 occurrences-below-requires c κs =
     let st = c .before .before .before .before .before .before .before .before .before in
-    let t = textIn (st .args .s) (arrays (st .args .lengths .now) (st .args .bytes .now) (st .args .superblocks .now) (st .args .blocks .now)) in
-    let n : c .before .text-length .result ≡ length t = c .before .text-length .ensures .1 _ _ _ _ _ (st .pre .checked) in
+    let n = c .before .text-length .ensures .1 _ _ _ _ _ (st .pre .checked) in
     (st .pre, c .before .before .if1 .left, omega (arith, n, c .if2 .left))
 
 accepted-requires : tie.Need-accepted-requires
@@ -45,9 +41,8 @@ accepted-requires c κs = search needs
 returns-3 : tie.Need-returns-3
 returns-3 c =
     let st = c .before .before .before .before .before .before .before .before .before .before .before in
-    let t = textIn (st .args .s) (arrays (st .args .lengths .now) (st .args .bytes .now) (st .args .superblocks .now) (st .args .blocks .now)) in
-    let n : c .before .before .before .text-length .result ≡ length t = c .before .before .before .text-length .ensures .1 _ _ _ _ _ (st .pre .checked) in
-    c .accepted .ensures ∙ ap accepted (c .before .occurrences-below .ensures) ∙ sym (occurrences-inside (st .args .shape .vocabulary) t (st .args .rank) (st .args .place) (c .before .before .before .before .if1 .left) (omega (arith, n, c .before .before .if2 .left)))
+    let n = c .before .before .before .text-length .ensures .1 _ _ _ _ _ (st .pre .checked) in
+    c .accepted .ensures ∙ ap accepted (c .before .occurrences-below .ensures) ∙ sym (occurrences-inside (st .args .shape .vocabulary) _ (st .args .rank) (st .args .place) (c .before .before .before .before .if1 .left) (omega (arith, n, c .before .before .if2 .left)))
 
 pub answer-occurrences-spec : {M : Type 1} → statement M
 answer-occurrences-spec =

@@ -29,9 +29,8 @@ refused-requires c κs = search needs
 returns : tie.Need-returns
 returns c =
     let st = c .before .before .before .before .before .before .before .before .before in
-    let t = textIn (st .args .s) (arrays (st .args .lengths .now) (st .args .bytes .now) (st .args .superblocks .now) (st .args .blocks .now)) in
     c .refused .ensures ∙ ap refused (c .before .before .phrase-refusal .ensures)
-    ∙ sym (phrase-refused (st .args .shape .vocabulary) (st .args .words .now) (st .args .start) (st .args .count) t (λ e. c .before .if1 .taken (c .before .before .phrase-refusal .ensures ∙ e)))
+    ∙ sym (phrase-refused (st .args .shape .vocabulary) (st .args .words .now) (st .args .start) (st .args .count) _ (λ e. c .before .if1 .taken (c .before .before .phrase-refusal .ensures ∙ e)))
 
 add-end : tie.Need-add-end
 add-end c = omega (arith, fits c .inside)

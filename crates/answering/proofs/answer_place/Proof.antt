@@ -16,8 +16,7 @@ refused-requires c κs = search needs
 returns : tie.Need-returns
 returns c =
     let st = c .before .before .before .before .before .before .before .before in
-    let t = textIn (st .args .s) (arrays (st .args .lengths .now) (st .args .bytes .now) (st .args .superblocks .now) (st .args .blocks .now)) in
-    c .refused .ensures ∙ sym (place-rank (st .args .shape .vocabulary) t (st .args .rank) (st .args .p) (c .before .if1 .taken))
+    c .refused .ensures ∙ sym (place-rank (st .args .shape .vocabulary) _ (st .args .rank) (st .args .p) (c .before .if1 .taken))
 
 refused-requires-2 : tie.Need-refused-requires-2
 refused-requires-2 c κs = search needs
@@ -25,8 +24,7 @@ refused-requires-2 c κs = search needs
 returns-2 : tie.Need-returns-2
 returns-2 c =
     let st = c .before .before .before .before .before .before .before .before .before in
-    let t = textIn (st .args .s) (arrays (st .args .lengths .now) (st .args .bytes .now) (st .args .superblocks .now) (st .args .blocks .now)) in
-    c .refused2 .ensures ∙ sym (place-outside (st .args .shape .vocabulary) t (st .args .rank) (st .args .p) (c .before .before .if1 .left) (below-range 1 (frequency t (st .args .rank)) (st .args .p) (c .before .if2 .taken)))
+    c .refused2 .ensures ∙ sym (place-outside (st .args .shape .vocabulary) _ (st .args .rank) (st .args .p) (c .before .before .if1 .left) (below-range 1 _ (st .args .p) (c .before .if2 .taken)))
 
 frequency-requires : tie.Need-frequency-requires
 frequency-requires c κs = search needs
@@ -49,8 +47,7 @@ accepted-requires c κs = search needs
 returns-4 : tie.Need-returns-4
 returns-4 c =
     let st = c .before .before .before .before .before .before .before .before .before .before .before .before in
-    let t = textIn (st .args .s) (arrays (st .args .lengths .now) (st .args .bytes .now) (st .args .superblocks .now) (st .args .blocks .now)) in
-    c .accepted .ensures ∙ ap accepted (c .before .place-of .ensures) ∙ sym (place-inside (st .args .shape .vocabulary) t (st .args .rank) (st .args .p) (c .before .before .before .before .before .if1 .left) (c .before .before .before .before .if2 .left) (omega (arith, c .before .before .before .frequency .ensures, c .before .before .if3 .left)))
+    c .accepted .ensures ∙ ap accepted (c .before .place-of .ensures) ∙ sym (place-inside (st .args .shape .vocabulary) _ (st .args .rank) (st .args .p) (c .before .before .before .before .before .if1 .left) (c .before .before .before .before .if2 .left) (omega (arith, c .before .before .before .frequency .ensures, c .before .before .if3 .left)))
 
 pub answer-place-spec : {M : Type 1} → statement M
 answer-place-spec =

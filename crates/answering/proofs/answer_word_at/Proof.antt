@@ -3,7 +3,6 @@ use mathlib.Core.Path.{_≡_, sym, ap, _∙_}
 use native.Mathlib.Omega.{arith}
 use borrow.Author.Needs.{needs}
 use lib.ListN.{length}
-use Rattle.index.specs.Arrays.{arrays, textIn}
 use Rattle.words.proofs.Parts.{checked-some}
 use Rattle.base.specs.Answers.{accepted, refused}
 use Rattle.questions.proofs.Answered.{word-at-outside, word-at-inside}
@@ -19,15 +18,13 @@ refused-requires c κs = search needs
 returns : tie.Need-returns
 returns c =
     let st = c .before .before .before .before .before .before .before .before in
-    let t = textIn (st .args .s) (arrays (st .args .lengths .now) (st .args .bytes .now) (st .args .superblocks .now) (st .args .blocks .now)) in
-    let n : c .before .before .text-length .result ≡ length t = c .before .before .text-length .ensures .1 _ _ _ _ _ (st .pre .checked) in
-    c .refused .ensures ∙ sym (word-at-outside t (st .args .place) (omega (arith, n, c .before .if1 .taken)))
+    let n = c .before .before .text-length .ensures .1 _ _ _ _ _ (st .pre .checked) in
+    c .refused .ensures ∙ sym (word-at-outside _ (st .args .place) (omega (arith, n, c .before .if1 .taken)))
 
 word-at-requires : tie.Need-word-at-requires
 word-at-requires c κs =
     let st = c .before .before .before .before .before .before .before in
-    let t = textIn (st .args .s) (arrays (st .args .lengths .now) (st .args .bytes .now) (st .args .superblocks .now) (st .args .blocks .now)) in
-    let n : c .before .text-length .result ≡ length t = c .before .text-length .ensures .1 _ _ _ _ _ (st .pre .checked) in
+    let n = c .before .text-length .ensures .1 _ _ _ _ _ (st .pre .checked) in
     (st .pre, omega (arith, n, c .if1 .left))
 
 cast-accepted : tie.Need-cast-accepted
@@ -39,9 +36,8 @@ accepted-requires c κs = search needs
 returns-2 : tie.Need-returns-2
 returns-2 c =
     let st = c .before .before .before .before .before .before .before .before .before in
-    let t = textIn (st .args .s) (arrays (st .args .lengths .now) (st .args .bytes .now) (st .args .superblocks .now) (st .args .blocks .now)) in
-    let n : c .before .before .before .text-length .result ≡ length t = c .before .before .before .text-length .ensures .1 _ _ _ _ _ (st .pre .checked) in
-    c .accepted .ensures ∙ ap accepted (c .before .word-at .ensures) ∙ sym (word-at-inside t (st .args .place) (omega (arith, n, c .before .before .if1 .left)))
+    let n = c .before .before .before .text-length .ensures .1 _ _ _ _ _ (st .pre .checked) in
+    c .accepted .ensures ∙ ap accepted (c .before .word-at .ensures) ∙ sym (word-at-inside _ (st .args .place) (omega (arith, n, c .before .before .if1 .left)))
 
 pub answer-word-at-spec : {M : Type 1} → statement M
 answer-word-at-spec =

@@ -3,7 +3,6 @@ use Prim.Native.Nat.{ℕ, suc, _+_, _-_, _≤_, _<_}
 use mathlib.Core.Path.{_≡_, sym, ap, _∙_}
 use mathlib.Core.Bool.{Bool}
 use mathlib.Core.List.{List, [], _∷_}
-use native.Mathlib.Numerals.{add-one}
 use native.Mathlib.Omega.{arith}
 use borrow.Author.Needs.{needs}
 use lib.ListN.{length, length-append}
@@ -14,7 +13,7 @@ use Rattle.words.proofs.Parts.{checked-some}
 use Rattle.words.proofs.Positions.{text-most}
 use Rattle.matching.specs.Sought.{hitAt}
 use Rattle.hits.specs.declared.Hit.{Hit}
-use Rattle.hits.specs.declared.Hit.the-variants.{At, Nowhere}
+use Rattle.hits.specs.declared.Hit.the-variants.{At}
 use Rattle.hits.specs.Hits.{hitsBetween, leastHit}
 use Rattle.hits.specs.Searches.{SearchFor, placeAfter}
 use Rattle.hits.proofs.Least.{hit-after, hit-below, hits-more, hits-over}

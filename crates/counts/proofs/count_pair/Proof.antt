@@ -29,7 +29,7 @@ count-hits-requires : tie.Need-count-hits-requires
 count-hits-requires c κs =
     let st = c .before .before .before .before .before .before .before .before .before .before .before in (
       record {
-        searchable = record { ready = st .pre .0; some = omega arith; most = omega arith; below = (st .pre .1, (st .pre .2, tt)) };
+        searchable = record { ready = st .pre .0; some = omega arith; most = omega arith; below = search needs };
         firsts-are = c .before .before .before .first-bytes .ensures ∙ front-whole _ _ refl;
       },
       refl,

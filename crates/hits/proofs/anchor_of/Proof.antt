@@ -1,5 +1,4 @@
 -- `hits::anchor_of` meets its contract: the rarest word of a phrase is one of its words. Assumes nothing.
-use Prim.Native.Nat.{ℕ}
 use mathlib.Core.Path.{refl, sym, subst}
 use borrow.Author.Needs.{needs}
 use Rattle.matching.specs.declared.Sought.{Sought}

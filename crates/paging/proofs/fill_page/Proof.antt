@@ -1,6 +1,6 @@
 -- `paging::fill_page` meets its contract: the hits between the next place and that of the search are written, and each way out is the
 -- page. Assumes nothing.
-use Prim.Native.Nat.{ℕ, suc, _+_, _-_, _≤_, _<_}
+use Prim.Native.Nat.{ℕ, suc, _+_, _-_, _≤_}
 use mathlib.Core.Path.{_≡_, sym, ap, subst, _∙_}
 use mathlib.Core.Bool.{Bool, true, false}
 use mathlib.Core.List.{List}
@@ -164,7 +164,7 @@ returns-2 c =
     (filling-full (test st) (length (text st)) (at .before .begin .result .place .0) (at .loop .search .place .0) (end at) entry (at .loop .lines) (at .loop .count) (at .loop .last .0) (end-is at) (at .loop .inv .0) (at .loop .inv .4) (hit h) (least h) (c .before .if1 .taken)))
 
 cast-lines : tie.Need-cast-lines Inv-loop μ-loop
-cast-lines c = omega (arith, small (c .before .before .before))
+cast-lines c = omega (arith, small (c .before .before .before), l (c .before .before .before) .loop .inv .2)
 
 mul-lines : tie.Need-mul-lines Inv-loop μ-loop
 mul-lines c = omega (arith, few (l (c .before .before .before)))
@@ -192,8 +192,8 @@ loop-again c =
       small h,
       h .before .before .next-hit .ensures .search-is,
       rw (onward h)
-      (filling-more (test st) (length (text st)) (at .before .begin .result .place .0) (at .loop .search .place .0) (end at) (st .args .lines .now) (at .loop .lines) (at .loop .count) (at .loop .last .0) (end-is at) (at .loop .inv .0) (at .loop .inv .4) (hit h) (least h)
-      (omega (arith, filled-length _ _ _ _ _ (at .loop .inv .4), at .loop .inv .4 .fits, c .before .before .if1 .left))),
+          (filling-more (test st) (length (text st)) (at .before .begin .result .place .0) (at .loop .search .place .0) (end at) (st .args .lines .now) (at .loop .lines) (at .loop .count) (at .loop .last .0) (end-is at) (at .loop .inv .0) (at .loop .inv .4) (hit h) (least h)
+          (omega (arith, filled-length _ _ _ _ _ (at .loop .inv .4), at .loop .inv .4 .fits, c .before .before .if1 .left))),
     )
 
 pub fill-page-spec : {M : Type 1} → statement M
