@@ -11,12 +11,6 @@ use index::Shape;
 use questions::Question;
 use tree::Place;
 
-// The offset runs from -MAX_OFFSET to MAX_OFFSET.
-const MAX_OFFSET: i32 = 16;
-
-// A phrase has 1 to MAX_PHRASE words.
-const MAX_PHRASE: usize = 16;
-
 // Kind 1: the rank at a place.
 fn answer_word_at(
     s: usize,
@@ -149,10 +143,10 @@ fn answer_neighbours(
     if shape.vocabulary <= v as usize {
         return Answer::refused(refusal::ASKED_RANK);
     }
-    if offset < -MAX_OFFSET {
+    if offset < -Question::MAX_OFFSET {
         return Answer::refused(refusal::OFFSET);
     }
-    if MAX_OFFSET < offset {
+    if Question::MAX_OFFSET < offset {
         return Answer::refused(refusal::OFFSET);
     }
     Answer::accepted(counts::neighbours(
@@ -177,7 +171,7 @@ pub fn phrase_refusal(vocabulary: usize, words: &[u32], start: usize, count: usi
     if count < 1 {
         return refusal::PHRASE;
     }
-    if MAX_PHRASE < count {
+    if Question::MAX_PHRASE < count {
         return refusal::PHRASE;
     }
     if words.len() < start {
