@@ -1,8 +1,8 @@
 -- How long a listing is at most. Assumes nothing.
-use Prim.Native.Nat.{ℕ, suc, _+_, _*_, _-_, _≤_, _<_}
-use mathlib.Core.Path.{_≡_, refl, sym, ap, _∙_}
+use Prim.Native.Nat.{ℕ, _*_, _-_, _≤_, _<_}
+use mathlib.Core.Path.{_≡_, refl, sym, _∙_}
 use mathlib.Core.Bool.{Bool, true, false}
-use mathlib.Core.List.{List, [], _∷_, _++_, map, map-append}
+use mathlib.Core.List.{List, [], _∷_, map}
 use mathlib.Core.Logic.{_⊎_, inl, inr}
 use native.Mathlib.Omega.{arith}
 use borrow.Author.Tests.{lt-ltb, le-ltb, ltb-false}
@@ -11,11 +11,7 @@ use lib.ListN.{length, length-append}
 use Rattle.base.specs.Lists.{Below, total, rangeFrom}
 use Rattle.base.proofs.Lists.{below-weaken}
 use Rattle.base.proofs.Tests.{below-or-not, or-neither}
-use Rattle.base.proofs.Ranges.{range-append, length-map-range}
-use Rattle.base.proofs.Sums.{total-append}
-use Rattle.formatting.specs.Characters.{characters, labelled, decimal, bytesText}
-use Rattle.formatting.proofs.Texts.{length-bytes-text}
-use Rattle.formatting.proofs.Decimals.{decimal-length, labelled-length}
+use Rattle.base.proofs.Ranges.{length-map-range}
 use Rattle.node_lines.proofs.Lengths.{headLength, refusal-length, counts-length, lines-length, heads-most}
 use Rattle.dense.specs.Code.{Closing}
 use Rattle.dense.specs.Laws.{codeLength}
@@ -25,7 +21,7 @@ use Rattle.tree.specs.Nodes.{nodeCount, nodeBytes, nodes}
 use Rattle.index.specs.Arrays.{indexOf, lengthsOf}
 use Rattle.index.specs.Exact.{WithinLimits, IsText}
 use Rattle.index.proofs.Texts.{total-lengths, length-bytes}
-use Rattle.node_lines.specs.Lines.{lineEnd, refusalLine, countsLine, nodeLine, nodeLines}
+use Rattle.node_lines.specs.Lines.{countsLine, nodeLines}
 use Rattle.node_listing.specs.Listing.{vocabularyOf, listedShape, indexListing, maxStream, maxStreamWords, maxStreamVocabulary, textListing, isLong, listing}
 use Rattle.node_listing.specs.Calls.{maxListing, ListingFits}
 use Rattle.node_listing.proofs.Vocabulary.{below-vocabulary}

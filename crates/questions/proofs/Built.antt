@@ -4,7 +4,7 @@ use mathlib.Core.Path.{_≡_, refl, sym, ap, _∙_}
 use mathlib.Core.Bool.{true, false}
 use mathlib.Core.List.{List}
 use borrow.Author.Tests.{ltb-false, not-false}
-use Rattle.base.specs.Answers.{accepted, isAccepted, NoneHolds, front}
+use Rattle.base.specs.Answers.{isAccepted}
 use Rattle.base.specs.Texts.{ranksBelow, wordsCase, rankCase}
 use Rattle.base.proofs.Answers.{none-holds}
 use Rattle.base.proofs.Fronts.{take-front}
@@ -12,12 +12,12 @@ use Rattle.base.proofs.Texts.{below-of-test}
 use Rattle.dense.specs.Code.{Closing, vocabularyCase}
 use Rattle.directory.specs.Counters.{blocksCase}
 use Rattle.index.specs.declared.Shape.{Shape}
-use Rattle.index.specs.Arrays.{Arrays, arrays, indexOf}
-use Rattle.index.specs.Entries.{isShorter, buildAnswer, buildExit, checkAnswer}
+use Rattle.index.specs.Arrays.{Arrays, indexOf}
+use Rattle.index.specs.Entries.{isShorter, buildAnswer, buildExit}
 use Rattle.index.specs.Exact.{WithinLimits, IsText, HasIndex}
 use Rattle.index.proofs.Limits.{tested-limits}
 use Rattle.index.proofs.Exact.{index-exact}
-use Rattle.questions.specs.Laws.{ReadByCalls, fronts, BuildReadByCalls}
+use Rattle.questions.specs.Laws.{frontParts, BuildReadByCalls}
 use Rattle.questions.proofs.Read.{index-read-by-calls}
 
 module _ (s : ℕ) (shape : Shape) (t : List ℕ) (z : Arrays) (within : Closing s) where
@@ -31,20 +31,20 @@ module _ (s : ℕ) (shape : Shape) (t : List ℕ) (z : Arrays) (within : Closing
         n .1 .1 .1 .1 .0,
       )
 
-  -- the fronts of its slices are the index
-  fronts-are : isAccepted (buildAnswer s shape t z) ≡ true → indexOf s shape t ≡ fronts (indexOf s shape t) (buildExit s shape t z)
-  fronts-are e =
+  -- the frontParts of its slices are the index
+  frontParts-are : isAccepted (buildAnswer s shape t z) ≡ true → indexOf s shape t ≡ frontParts (indexOf s shape t) (buildExit s shape t z)
+  frontParts-are e =
       let p = passed e in
       let a = indexOf s shape t in
-      sym (ap (fronts a) (index-exact s shape within .built t z (p .0) (p .1) (p .2) .1)
+      sym (ap (frontParts a) (index-exact s shape within .built t z (p .0) (p .1) (p .2) .1)
       ∙ rw (take-front (a .lengths) (z .lengths), take-front (a .bytes) (z .bytes), take-front (a .superblocks) (z .superblocks), take-front (a .blocks) (z .blocks)))
 
-  has-index : isAccepted (buildAnswer s shape t z) ≡ true → HasIndex s shape t (fronts (indexOf s shape t) (buildExit s shape t z))
-  has-index e = record { text = passed e .1; index = fronts-are e }
+  has-index : isAccepted (buildAnswer s shape t z) ≡ true → HasIndex s shape t (frontParts (indexOf s shape t) (buildExit s shape t z))
+  has-index e = record { text = passed e .1; index = frontParts-are e }
 
 pub build-read-by-calls : BuildReadByCalls
 build-read-by-calls s shape t z within = record {
   acceptedIf = (passed s shape t z within, λ p. ap isAccepted (index-exact s shape within .built t z (p .0) (p .1) (p .2) .0));
-  checks = λ e. index-exact s shape within .passed (fronts (indexOf s shape t) (buildExit s shape t z)) .1 (passed s shape t z within e .0, (t, has-index s shape t z within e));
-  reads = λ e. index-read-by-calls s shape t (fronts (indexOf s shape t) (buildExit s shape t z)) within (passed s shape t z within e .0) (has-index s shape t z within e);
+  checks = λ e. index-exact s shape within .passed (frontParts (indexOf s shape t) (buildExit s shape t z)) .1 (passed s shape t z within e .0, (t, has-index s shape t z within e));
+  reads = λ e. index-read-by-calls s shape t (frontParts (indexOf s shape t) (buildExit s shape t z)) within (passed s shape t z within e .0) (has-index s shape t z within e);
 }

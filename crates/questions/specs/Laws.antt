@@ -50,8 +50,8 @@ IndexReadByCalls =
     ReadByCalls s shape t a
 
 -- the fronts of four slices that have the lengths of the arrays
-abbrev pub fronts : Arrays → Arrays → Arrays
-fronts a z =
+abbrev pub frontParts : Arrays → Arrays → Arrays
+frontParts a z =
     arrays
     (take (length (a .lengths)) (z .lengths))
     (take (length (a .bytes)) (z .bytes))
@@ -65,9 +65,9 @@ pub record BuiltReadByCalls (s : ℕ) (shape : Shape) (t : List ℕ) (z : Arrays
       (isAccepted (buildAnswer s shape t z) ≡ true)
       ↔ (WithinLimits s shape × IsText (shape .vocabulary) t × (isShorter z (indexOf s shape t) ≡ false))
   -- what an accepted call left in front of its slices is accepted by the check
-  pub checks : isAccepted (buildAnswer s shape t z) ≡ true → checkAnswer s shape (fronts (indexOf s shape t) (buildExit s shape t z)) ≡ accepted 0
+  pub checks : isAccepted (buildAnswer s shape t z) ≡ true → checkAnswer s shape (frontParts (indexOf s shape t) (buildExit s shape t z)) ≡ accepted 0
   -- and read back
-  pub reads : isAccepted (buildAnswer s shape t z) ≡ true → ReadByCalls s shape t (fronts (indexOf s shape t) (buildExit s shape t z))
+  pub reads : isAccepted (buildAnswer s shape t z) ≡ true → ReadByCalls s shape t (frontParts (indexOf s shape t) (buildExit s shape t z))
 
 -- Statement: at every number of closing values, of every V, B and b, every text and all slices.
 abbrev pub BuildReadByCalls : Type 0

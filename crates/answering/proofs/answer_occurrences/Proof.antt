@@ -1,8 +1,7 @@
 -- `answering::answer_occurrences` meets its contract: the rank is tested, then the place. Assumes nothing.
-use mathlib.Core.Path.{_≡_, sym, ap, _∙_}
+use mathlib.Core.Path.{sym, ap, _∙_}
 use native.Mathlib.Omega.{arith}
 use borrow.Author.Needs.{needs}
-use lib.ListN.{length}
 use Rattle.words.proofs.Parts.{checked-some}
 use Rattle.base.specs.Answers.{accepted, refused}
 use Rattle.questions.proofs.Answered.{occurrences-rank, occurrences-outside, occurrences-inside}

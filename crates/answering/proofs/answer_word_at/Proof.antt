@@ -1,8 +1,7 @@
 -- `answering::answer_word_at` meets its contract: the place is tested against the length of the text. Assumes nothing.
-use mathlib.Core.Path.{_≡_, sym, ap, _∙_}
+use mathlib.Core.Path.{sym, ap, _∙_}
 use native.Mathlib.Omega.{arith}
 use borrow.Author.Needs.{needs}
-use lib.ListN.{length}
 use Rattle.words.proofs.Parts.{checked-some}
 use Rattle.base.specs.Answers.{accepted, refused}
 use Rattle.questions.proofs.Answered.{word-at-outside, word-at-inside}
