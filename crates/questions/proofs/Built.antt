@@ -31,7 +31,7 @@ module _ (s : ℕ) (shape : Shape) (t : List ℕ) (z : Arrays) (within : Closing
         n .1 .1 .1 .1 .0,
       )
 
-  -- the frontParts of its slices are the index
+  -- the fronts of its slices are the index
   frontParts-are : isAccepted (buildAnswer s shape t z) ≡ true → indexOf s shape t ≡ frontParts (indexOf s shape t) (buildExit s shape t z)
   frontParts-are e =
       let p = passed e in
