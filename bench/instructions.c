@@ -1,0 +1,82 @@
+/*
+ * What a call costs in instructions, which do not depend on what else the machine does: compile with the archive to be measured and run under
+ * callgrind, once for each call, and compare what it collects with that of another archive.
+ *
+ *   cc -O2 -Iinclude bench/instructions.c target/staticlib/libconcordance.a -o target/instructions
+ *   valgrind --tool=callgrind --callgrind-out-file=/dev/null target/instructions CALL
+ *
+ * CALL is 0 for the check, 1, 3, 4 or 5 for a sheet of 400 questions of that kind, 6 for 20 pages of 20 lines. The text has 400,000 words, a few of
+ * them very frequent, so that phrases and neighbours have many hits. A sum of the answers is printed: it is the same with every archive.
+ */
+#include "concordance.h"
+
+#include <stdio.h>
+#include <stdlib.h>
+
+enum { WORDS = 400000, VOCABULARY = 50000, BLOCK = 1024, PER = 8, QUESTIONS = 400, PAGES = 20, LINES = 20 };
+
+static uint64_t state = 88172645463325252ull;
+
+static uint32_t random_number(void) {
+    state ^= state << 13;
+    state ^= state >> 7;
+    state ^= state << 17;
+    return (uint32_t)(state >> 11);
+}
+
+static uint32_t text[WORDS], words[2 * QUESTIONS], answers[2 * QUESTIONS];
+
+static void fill_text(void) {
+    for (int i = 0; i < WORDS; i++) {
+        double part = (random_number() % 1000000 + 1) / 1000000.0;
+        uint32_t rank = (uint32_t)(1.0 / (part + 0.00002));
+        if (random_number() % 2) rank = rank * 7 + random_number() % 5;
+        text[i] = rank % VOCABULARY;
+    }
+}
+
+int main(int count, char **arguments) {
+    const int call = count > 1 ? atoi(arguments[1]) : 0;
+    fill_text();
+    const concordance_shape shape = {VOCABULARY, BLOCK, PER};
+    const size_t nodes = (VOCABULARY + 127) / 128, most = 3 * WORDS;
+    const size_t upper = 256 * (most / (BLOCK * PER) + 1), lower = 256 * (most / BLOCK + 1);
+    uint32_t *lengths = calloc(nodes, sizeof *lengths), *superblocks = calloc(upper, sizeof *superblocks);
+    uint8_t *bytes = calloc(most, sizeof *bytes);
+    uint16_t *blocks = calloc(lower, sizeof *blocks);
+    const concordance_answer built =
+        concordance_build(shape, text, WORDS, lengths, nodes, bytes, most, superblocks, upper, blocks, lower);
+    const size_t size = built.value;
+#define INDEX lengths, nodes, bytes, size, superblocks, 256 * (size / (BLOCK * PER) + 1), blocks, 256 * (size / BLOCK + 1)
+
+    concordance_question questions[QUESTIONS] = {0};
+    for (int i = 0; i < QUESTIONS; i++) {
+        const size_t place = random_number() % (WORDS - 8);
+        words[2 * i] = text[place];
+        words[2 * i + 1] = text[place + 1];
+        questions[i].kind = (uint32_t)call;
+        questions[i].w = text[place];
+        questions[i].v = text[place + 3];
+        questions[i].d = 3;
+        questions[i].p = call == 3 ? 1 : place;
+        questions[i].start = 2 * i;
+        questions[i].length = 2;
+    }
+
+    uint64_t sum = built.refusal;
+    if (call == 0) {
+        sum += concordance_check(shape, INDEX).refusal;
+    } else if (call == 6) {
+        for (int i = 0; i < PAGES; i++) {
+            uint32_t lines[LINES];
+            const concordance_page page =
+                concordance_list(concordance_open(), shape, INDEX, words, 2 * QUESTIONS, 2 * i, 2, lines, LINES);
+            for (size_t k = 0; k < page.answer.value; k++) sum += lines[k];
+        }
+    } else {
+        sum += concordance_answer_sheet(shape, INDEX, words, 2 * QUESTIONS, questions, QUESTIONS, answers, 2 * QUESTIONS).refusal;
+        for (int i = 0; i < 2 * QUESTIONS; i++) sum = sum * 31 + answers[i];
+    }
+    printf("call %d, bytes %zu, sum %llu\n", call, size, (unsigned long long)sum);
+    return 0;
+}
