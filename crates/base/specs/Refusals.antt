@@ -1,4 +1,5 @@
--- The numbers of the table of refusals of paper 01, "Calls turned down". `refusal` in `src/` has the same, by the same names.
+-- The numbers of the table of refusals: 1 to 15 of paper 01, "Calls turned down", the others of paper 02. `refusal` in `src/` has the same, by
+-- the same names.
 use Prim.Native.Nat.{ℕ}
 
 -- V is outside its limits
@@ -60,3 +61,7 @@ refusalUnlisted = 14
 -- a stream has a codeword of over three bytes, or ends inside one
 abbrev pub refusalStream : ℕ
 refusalStream = 15
+
+-- four sizes that are handed back are not those of the text
+abbrev pub refusalSizes : ℕ
+refusalSizes = 16

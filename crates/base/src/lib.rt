@@ -1,5 +1,5 @@
 // What every crate of the engine shares: the answer of a call, the limits of paper 01, the numbers
-// of its table of refusals (`refusal`), and the search for a rank that is outside the vocabulary.
+// of the table of refusals (`refusal`), and the search for a rank that is outside the vocabulary.
 pub mod refusal;
 
 ghost use mathlib.Core.Path.{_≡_};

@@ -1,4 +1,5 @@
-// The numbers of the table of refusals of paper 01, "Calls turned down".
+// The numbers of the table of refusals: 1 to 15 of paper 01, "Calls turned down", the others of paper
+// 02.
 
 // V is outside its limits.
 pub const VOCABULARY: u32 = 1;
@@ -44,3 +45,6 @@ pub const UNLISTED: u32 = 14;
 
 // A stream has a codeword of over three bytes, or ends inside one.
 pub const STREAM: u32 = 15;
+
+// Four sizes that are handed back are not those of the text.
+pub const SIZES: u32 = 16;

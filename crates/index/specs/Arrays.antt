@@ -10,6 +10,10 @@ use Rattle.tree.specs.Nodes.{nodes}
 use Rattle.tree.specs.Walks.{textOf}
 use Rattle.index.specs.declared.Shape.{Shape}
 
+-- V, B and b, in the order in which they are named
+abbrev pub shapeOf : ℕ → ℕ → ℕ → Shape
+shapeOf vocabulary block per = record { vocabulary = vocabulary; block = block; «per_superblock» = per }
+
 -- the four slices: the length of each node, the node bytes, the superblock rows and the block rows
 pub record Arrays : Type 0 where
   pub lengths : List ℕ

@@ -1,7 +1,7 @@
 -- The answers of the calls that build and check an index, and what building leaves in the lent slices.
 use Prim.Native.Nat.{ℕ}
 use mathlib.Core.Bool.{Bool, not, _||_}
-use mathlib.Core.List.{List, [], _∷_}
+use mathlib.Core.List.{List, [], _∷_, _++_}
 use lib.Dec.{ltb}
 use lib.ListN.{length}
 use Rattle.base.specs.declared.Answer.{Answer}
@@ -19,26 +19,35 @@ isShorter z a =
     ltb (length (z .lengths)) (length (a .lengths)) || ltb (length (z .bytes)) (length (a .bytes))
     || ltb (length (z .superblocks)) (length (a .superblocks)) || ltb (length (z .blocks)) (length (a .blocks))
 
--- building the index of t in slices that hold z
-unfoldable pub buildAnswer : ℕ → Shape → List ℕ → Arrays → Answer
-buildAnswer s shape t z =
-    firstOf
-    (vocabularyCase s (shape .vocabulary)
+-- the refusals of a text to index: 1, 2, 3, and 4 with the first place whose rank is not below V
+unfoldable pub textCases : ℕ → Shape → List ℕ → List Case
+textCases s shape t =
+    vocabularyCase s (shape .vocabulary)
     ∷ wordsCase (length t)
     ∷ blocksCase (shape .block) (shape .«per_superblock»)
     ∷ rankCase (shape .vocabulary) t
-    ∷ (isShorter z (indexOf s shape t) ⇒ refused refusalShortSlice)
-    ∷ [])
-    (accepted (length (indexOf s shape t .bytes)))
+    ∷ []
+
+-- refusal 5: one of the slices z is too short for the index of t
+unfoldable pub shortCase : ℕ → Shape → List ℕ → Arrays → Case
+shortCase s shape t z = isShorter z (indexOf s shape t) ⇒ refused refusalShortSlice
+
+-- building the index of t in slices that hold z
+unfoldable pub buildAnswer : ℕ → Shape → List ℕ → Arrays → Answer
+buildAnswer s shape t z = firstOf (textCases s shape t ++ shortCase s shape t z ∷ []) (accepted (length (indexOf s shape t .bytes)))
+
+-- what a call with this answer leaves in slices z that it fills with the arrays a: each in front of its slice, the rest as it was
+abbrev pub filledArrays : Answer → Arrays → Arrays → Arrays
+filledArrays r a z =
+    arrays
+    (filled r (a .lengths) (z .lengths))
+    (filled r (a .bytes) (z .bytes))
+    (filled r (a .superblocks) (z .superblocks))
+    (filled r (a .blocks) (z .blocks))
 
 -- what the slices hold then: the index in front of each, the rest as it was
 unfoldable pub buildExit : ℕ → Shape → List ℕ → Arrays → Arrays
-buildExit s shape t z =
-    arrays
-    (filled (buildAnswer s shape t z) (indexOf s shape t .lengths) (z .lengths))
-    (filled (buildAnswer s shape t z) (indexOf s shape t .bytes) (z .bytes))
-    (filled (buildAnswer s shape t z) (indexOf s shape t .superblocks) (z .superblocks))
-    (filled (buildAnswer s shape t z) (indexOf s shape t .blocks) (z .blocks))
+buildExit s shape t z = filledArrays (buildAnswer s shape t z) (indexOf s shape t) z
 
 -- refusals 1, 3 and 6, which every call that reads an index tries
 unfoldable pub indexCases : ℕ → Shape → Arrays → List Case
