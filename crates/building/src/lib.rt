@@ -1,15 +1,43 @@
 // Building the index of a text in lent slices, over the number s of closing byte values.
 //
-// The entry is `build`, with 128 closing values.
+// The entries are `build` and `build_sized`, with 128 closing values.
 ghost use mathlib.Core.Path.{_≡_};
+ghost use mathlib.Core.Bool.{true};
+ghost use Rattle.base.specs.Answers.{isAccepted};
 ghost use Rattle.dense.specs.Code.{Closing};
 ghost use Rattle.index.specs.Arrays.{arrays};
 ghost use Rattle.index.specs.Entries.{buildAnswer, buildExit};
+ghost use Rattle.measuring.specs.Sizes.{sizesOf, measureAnswer, buildSizedAnswer, buildSizedExit};
 use base::Answer;
 use base::refusal;
 use index::Shape;
+use measuring::IndexSizes;
 
-// Builds the index of a text with s closing values: the answer and the slices are those of paper 01.
+// Builds the index of a text that measuring accepts, and whose index has so many bytes.
+fn build_measured(
+    s: usize,
+    shape: Shape,
+    needed: usize,
+    text: &[u32],
+    lengths: &mut [u32],
+    bytes: &mut [u8],
+    superblocks: &mut [u32],
+    blocks: &mut [u16],
+) -> Answer
+    requires { ⌜ Closing s × (isAccepted (measureAnswer s shape (now text)) ≡ true) × (needed ≡ sizesOf s shape (now text) .bytes) ⌝ }
+    ensures answered { λ r. ⌜ r ≡ buildAnswer s shape (now (text .entry)) (arrays (now (lengths .entry)) (now (bytes .entry)) (now (superblocks .entry)) (now (blocks .entry))) ⌝ }
+    ensures filled { λ _. ⌜ arrays (now (lengths .exit)) (now (bytes .exit)) (now (superblocks .exit)) (now (blocks .exit))
+        ≡ buildExit s shape (now (text .entry)) (arrays (now (lengths .entry)) (now (bytes .entry)) (now (superblocks .entry)) (now (blocks .entry))) ⌝ }
+{
+    if writing::too_short(s, shape, needed, lengths, bytes, superblocks, blocks) {
+        return Answer::refused(refusal::SHORT_SLICE);
+    }
+    writing::write_index(s, shape, text, needed, lengths, bytes, superblocks, blocks);
+    Answer::accepted(needed)
+}
+
+// Builds the index of a text with s closing values: it is measured, and then built. The answer and
+// the slices are those of paper 01.
 pub fn build_of(
     s: usize,
     shape: Shape,
@@ -24,26 +52,57 @@ pub fn build_of(
     ensures filled { λ _. ⌜ arrays (now (lengths .exit)) (now (bytes .exit)) (now (superblocks .exit)) (now (blocks .exit))
         ≡ buildExit s shape (now (text .entry)) (arrays (now (lengths .entry)) (now (bytes .entry)) (now (superblocks .entry)) (now (blocks .entry))) ⌝ }
 {
-    let outside = index::limits_refusal(s, shape);
-    if outside == refusal::VOCABULARY {
-        return Answer::refused(refusal::VOCABULARY);
+    let measured = measuring::measure_of(s, shape, text);
+    if measured.answer.refusal != 0 {
+        return measured.answer;
     }
-    if base::MAX_WORDS < text.len() {
-        return Answer::refused(refusal::WORDS);
+    build_measured(
+        s,
+        shape,
+        measured.sizes.bytes,
+        text,
+        lengths,
+        bytes,
+        superblocks,
+        blocks,
+    )
+}
+
+// Builds the index of a text with s closing values and sizes that are handed back: the answer and
+// the slices are those of paper 02. The sizes are compared with those of the text, and nothing is
+// computed with them.
+pub fn build_sized_of(
+    s: usize,
+    shape: Shape,
+    sizes: IndexSizes,
+    text: &[u32],
+    lengths: &mut [u32],
+    bytes: &mut [u8],
+    superblocks: &mut [u32],
+    blocks: &mut [u16],
+) -> Answer
+    requires { ⌜ Closing s ⌝ }
+    ensures answered { λ r. ⌜ r ≡ buildSizedAnswer s shape sizes (now (text .entry)) (arrays (now (lengths .entry)) (now (bytes .entry)) (now (superblocks .entry)) (now (blocks .entry))) ⌝ }
+    ensures filled { λ _. ⌜ arrays (now (lengths .exit)) (now (bytes .exit)) (now (superblocks .exit)) (now (blocks .exit))
+        ≡ buildSizedExit s shape sizes (now (text .entry)) (arrays (now (lengths .entry)) (now (bytes .entry)) (now (superblocks .entry)) (now (blocks .entry))) ⌝ }
+{
+    let measured = measuring::measure_of(s, shape, text);
+    if measured.answer.refusal != 0 {
+        return measured.answer;
     }
-    if outside != 0 {
-        return Answer::refused(refusal::BLOCKS);
+    if !measuring::same_sizes(sizes, measured.sizes) {
+        return Answer::refused(refusal::SIZES);
     }
-    let place = base::first_outside(text, shape.vocabulary);
-    if place < text.len() {
-        return Answer::refused_at(refusal::TEXT_RANK, place);
-    }
-    let needed = dense::stream_length(s, text);
-    if writing::too_short(s, shape, needed, lengths, bytes, superblocks, blocks) {
-        return Answer::refused(refusal::SHORT_SLICE);
-    }
-    writing::write_index(s, shape, text, needed, lengths, bytes, superblocks, blocks);
-    Answer::accepted(needed)
+    build_measured(
+        s,
+        shape,
+        measured.sizes.bytes,
+        text,
+        lengths,
+        bytes,
+        superblocks,
+        blocks,
+    )
 }
 
 // Builds the index of a text of the published code in front of the four slices, and answers the
@@ -64,6 +123,35 @@ pub fn build(
     build_of(
         dense::CLOSING,
         shape,
+        text,
+        lengths,
+        bytes,
+        superblocks,
+        blocks,
+    )
+}
+
+// Builds the index of a text of the published code with the four sizes that measuring gave, in front
+// of the four slices, and answers the number of node bytes. Refusals 1, 2, 3, 4 with the first place
+// whose rank is not below the vocabulary's size, 16 if the sizes are not those of the text, and 5
+// leave the slices as they were.
+pub fn build_sized(
+    shape: Shape,
+    sizes: IndexSizes,
+    text: &[u32],
+    lengths: &mut [u32],
+    bytes: &mut [u8],
+    superblocks: &mut [u32],
+    blocks: &mut [u16],
+) -> Answer
+    ensures answered { λ r. ⌜ r ≡ buildSizedAnswer 128 shape sizes (now (text .entry)) (arrays (now (lengths .entry)) (now (bytes .entry)) (now (superblocks .entry)) (now (blocks .entry))) ⌝ }
+    ensures filled { λ _. ⌜ arrays (now (lengths .exit)) (now (bytes .exit)) (now (superblocks .exit)) (now (blocks .exit))
+        ≡ buildSizedExit 128 shape sizes (now (text .entry)) (arrays (now (lengths .entry)) (now (bytes .entry)) (now (superblocks .entry)) (now (blocks .entry))) ⌝ }
+{
+    build_sized_of(
+        dense::CLOSING,
+        shape,
+        sizes,
         text,
         lengths,
         bytes,

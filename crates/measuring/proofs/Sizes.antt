@@ -4,7 +4,7 @@ use mathlib.Core.Path.{_≡_, refl, sym, ap, _∙_}
 use mathlib.Core.Bool.{Bool, true, false, cond, not, _&&_}
 use mathlib.Core.List.{List, [], _∷_}
 use native.Mathlib.Omega.{arith}
-use borrow.Author.Tests.{eq-eqb, eqb-true}
+use borrow.Author.Tests.{eq-eqb, ne-eqb, eqb-true}
 use lib.Dec.{eqb}
 use lib.ListN.{length}
 use Rattle.base.specs.declared.Answer.{Answer}
@@ -68,10 +68,24 @@ module _ (s : ℕ) (shape : Shape) (t : List ℕ) where
   unfolding measuredOf
   measured-zeros e = ap (λ (b : Bool). cond b (sizesOf s shape t) noSizes) e
 
+  -- an answer of 0 accepts the text, and another refuses it
+  pub taken-up : {r : Answer} → r ≡ measureAnswer s shape t → r .refusal ≡ 0 → isAccepted (measureAnswer s shape t) ≡ true
+  taken-up e z = ap isAccepted (sym e) ∙ eq-eqb _ _ z
+
+  pub turned-down : {r : Answer} → r ≡ measureAnswer s shape t → (r .refusal ≡ 0 → ⊥) → isAccepted (measureAnswer s shape t) ≡ false
+  turned-down e n = ap isAccepted (sym e) ∙ ne-eqb _ _ n
+
   -- all that it returns is the answer and the sizes
   pub measured-as : {r : Answer} {x : IndexSizes} → r ≡ measureAnswer s shape t → x ≡ measuredOf s shape t .sizes → _≡_ {A = Measured} record { answer = r; sizes = x } (measuredOf s shape t)
   unfolding measuredOf
   measured-as p q = λ i. record { answer = p i; sizes = q i }
+
+  pub its-answer : {m : Measured} → m ≡ measuredOf s shape t → m .answer ≡ measureAnswer s shape t
+  unfolding measuredOf
+  its-answer e = ap (λ (x : Measured). x .answer) e
+
+  pub its-sizes : {m : Measured} → m ≡ measuredOf s shape t → m .answer .refusal ≡ 0 → m .sizes ≡ sizesOf s shape t
+  its-sizes e z = ap (λ (x : Measured). x .sizes) e ∙ measured-sizes (taken-up (its-answer e) z)
 
   -- past the tests of the text, and where one of them holds
   past : isAccepted (measureAnswer s shape t) ≡ true → (x : Answer) → firstOf (textCases s shape t) x ≡ x
@@ -167,6 +181,10 @@ module _ (s : ℕ) (shape : Shape) (t : List ℕ) where
       → sizesOf s shape t ≡ sizes (nodeCount s (shape .vocabulary)) (length (stream s t)) (suc (length (stream s t) / (shape .block * shape .«per_superblock»))) (suc (length (stream s t) / shape .block))
   unfolding sizesOf
   sizes-are within limits text = rw (count-lengths s shape t, count-bytes s shape t within limits text)
+
+  -- L is the length of the stream of a text that measuring accepts
+  pub measured-bytes : Closing s → isAccepted (measureAnswer s shape t) ≡ true → sizesOf s shape t .bytes ≡ length (stream s t)
+  measured-bytes within e = let w = measure-passed s shape t e in sizes-bytes ∙ count-bytes s shape t within (w .0) (w .1)
 
   -- so that slices are long enough exactly if they have room for them
   room-enough : (z : Arrays) → HasRoom (sizesOf s shape t) z → isShorter z (indexOf s shape t) ≡ false

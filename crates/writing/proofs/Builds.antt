@@ -3,13 +3,11 @@ use Prim.Native.Nat.{ℕ, _≤_, _<_}
 use mathlib.Core.Path.{_≡_, refl, sym, ap, ap₂, _∙_}
 use mathlib.Core.List.{List, _++_, flatten}
 use native.Mathlib.Omega.{arith}
-use borrow.Author.Tests.{ltb-false}
 use lib.ListN.{length, take, drop, length-append}
 use lib.Seq.{take-at, length-take-le}
 use Rattle.base.specs.declared.Answer.{Answer}
 use Rattle.base.specs.Lists.{rangeFrom, total}
 use Rattle.base.specs.Answers.{accepted, front}
-use Rattle.base.proofs.Tests.{or-neither}
 use Rattle.base.proofs.Lists.{all-imp, below-weaken, map-map}
 use Rattle.dense.specs.Code.{Closing, maxVocabulary}
 use Rattle.dense.specs.Streams.{stream}
@@ -23,7 +21,7 @@ use Rattle.index.specs.Exact.{WithinLimits, IsText}
 use Rattle.filling.specs.Filling.{firstNodes, nodeLengths, InNodes}
 use Rattle.writing.specs.Slices.{tooShort, Buildable, fronts}
 use Rattle.index.proofs.Texts.{total-lengths, length-bytes, index-superblocks, index-blocks, count-lengths, count-bytes, stream-short, count-superblocks, count-blocks}
-use Rattle.index.proofs.Refusals.{build-accepted, build-filled}
+use Rattle.index.proofs.Refusals.{room-each, build-accepted, build-filled}
 
 module _ (s : ℕ) (shape : Shape) (t : List ℕ) (z : Arrays) where
   -- an accepted call returns the number of bytes and has the index in front
@@ -69,22 +67,6 @@ module _ (s : ℕ) (shape : Shape) (t : List ℕ) where
 
 -- ---- room
 
-module _ {s : ℕ} {shape : Shape} {t : List ℕ} {z : Arrays} (b : Buildable s shape t z) where
-  -- each slice has room for its array
-  room-each : (length (indexOf s shape t .lengths) ≤ length (z .lengths)) × (length (indexOf s shape t .bytes) ≤ length (z .bytes))
-      × (length (indexOf s shape t .superblocks) ≤ length (z .superblocks)) × (length (indexOf s shape t .blocks) ≤ length (z .blocks))
-  unfolding isShorter
-  room-each =
-      let i = indexOf s shape t in
-      let k = or-neither _ _ (b .room) in
-      let u = or-neither _ _ (k .0) in
-      let y = or-neither _ _ (u .0) in (
-        ltb-false (length (z .lengths)) (length (i .lengths)) (y .0),
-        ltb-false (length (z .bytes)) (length (i .bytes)) (y .1),
-        ltb-false (length (z .superblocks)) (length (i .superblocks)) (u .1),
-        ltb-false (length (z .blocks)) (length (i .blocks)) (k .1),
-      )
-
 -- what is written to the first n elements of a slice, all else staying, is written to its front
 front-here : (xs ys slice : List ℕ) (n : ℕ) → xs ≡ ys → n ≡ length ys → xs ++ drop n slice ≡ front ys slice
 unfolding front
@@ -94,10 +76,10 @@ front-here xs ys slice n e l = ap₂ (λ (a : List ℕ) (m : ℕ). a ++ drop m s
 module _ {s : ℕ} {shape : Shape} {t : List ℕ} {z : Arrays} (b : Buildable s shape t z) (n l : ℕ) (n-is : n ≡ nodeCount s (shape .vocabulary)) (l-is : l ≡ length (stream s t)) where
   -- the lent slices have so many elements
   pub lengths-room : n ≤ length (z .lengths)
-  lengths-room = omega (arith, room-each b .0, count-lengths s shape t)
+  lengths-room = omega (arith, room-each z (indexOf s shape t) (b .room) .0, count-lengths s shape t)
 
   pub bytes-room : l ≤ length (z .bytes)
-  bytes-room = omega (arith, room-each b .1, count-bytes s shape t (b .closing) (b .limits) (b .text))
+  bytes-room = omega (arith, room-each z (indexOf s shape t) (b .room) .1, count-bytes s shape t (b .closing) (b .limits) (b .text))
 
   -- as many lengths are lent as there are nodes
   lent : length (take n (z .lengths)) ≡ nodeCount s (shape .vocabulary)
@@ -141,8 +123,8 @@ module _ {s : ℕ} {shape : Shape} {t : List ℕ} {z : Arrays} (b : Buildable s 
         superblock-most = b .limits .mostBytes;
         bytes-most = omega (arith, count-bytes s shape t (b .closing) (b .limits) (b .text), stream-short s shape t (b .closing) (b .limits) (b .text));
       },
-      rw (index-superblocks s shape t) (room-each b .2),
-      rw (index-blocks s shape t) (room-each b .3),
+      rw (index-superblocks s shape t) (room-each z (indexOf s shape t) (b .room) .2),
+      rw (index-blocks s shape t) (room-each z (indexOf s shape t) (b .room) .3),
     )
 
     -- with them the index stands in front
