@@ -5,7 +5,10 @@
 //     # ..                       nothing: the line is printed
 //     encode SIZE V R..          writes a text as a stream into a slice of so many bytes
 //     decode SIZE B..            reads a stream into a slice of so many ranks
+//     needs V B b R..            measures a text: the sizes of its index stand behind the answer
 //     room N L U K V B b R..     builds the index of a text in slices of these sizes
+//     handed N L U K n l u k V B b R..   builds it in slices of these sizes, with the sizes n l u k
+//                                handed back; behind the bytes stand the lengths
 //     build V B b R..            builds it in arrays with room, of which the calls below are lent parts
 //     sizes N L U K              how many elements of each array are lent
 //     values V B b               the V, B and b that are given

@@ -2,6 +2,7 @@
 use crate::given;
 use crate::given::Numbers;
 use crate::state::State;
+use measuring::IndexSizes;
 use questions::Question;
 use small_indexes::shape_of;
 
@@ -62,6 +63,27 @@ fn quote(state: State, numbers: Numbers) {
     read(state, numbers.values[0], &mut ranks[..count]);
 }
 
+// Prints four sizes.
+fn four(sizes: IndexSizes) {
+    printing::words(b"; ");
+    printing::number(sizes.nodes);
+    printing::words(b" ");
+    printing::number(sizes.bytes);
+    printing::words(b" ");
+    printing::number(sizes.superblock_rows);
+    printing::words(b" ");
+    printing::number(sizes.block_rows);
+}
+
+// Measures a text.
+fn needs(numbers: Numbers) {
+    let text = given::ranks_of(numbers, 3);
+    let shape = shape_of(numbers.values[0], numbers.values[1], numbers.values[2]);
+    let measured = measuring::measure(shape, small_indexes::front(&text.values, text.count));
+    printing::answered(measured.answer);
+    four(measured.sizes);
+}
+
 // Builds the index of a text in slices.
 fn build_in(numbers: Numbers, n: &mut [u32], l: &mut [u8], u: &mut [u32], k: &mut [u16]) {
     let text = given::ranks_of(numbers, 7);
@@ -77,18 +99,59 @@ fn build_in(numbers: Numbers, n: &mut [u32], l: &mut [u8], u: &mut [u32], k: &mu
     printing::answered_with_bytes(answer, l);
 }
 
-// Builds the index of a text in slices of these sizes, at most 300 elements and 20 bytes.
-fn room(numbers: Numbers) {
-    let mut lengths = [7u32; 300];
+// Builds the index of a text in slices, with four sizes that are handed back.
+fn build_sized_in(numbers: Numbers, n: &mut [u32], l: &mut [u8], u: &mut [u32], k: &mut [u16]) {
+    let text = given::ranks_of(numbers, 11);
+    let shape = shape_of(numbers.values[8], numbers.values[9], numbers.values[10]);
+    let sizes = IndexSizes {
+        nodes: numbers.values[4],
+        bytes: numbers.values[5],
+        superblock_rows: numbers.values[6],
+        block_rows: numbers.values[7],
+    };
+    let answer = building::build_sized(
+        shape,
+        sizes,
+        small_indexes::front(&text.values, text.count),
+        n,
+        l,
+        u,
+        k,
+    );
+    printing::answered_with_bytes(answer, l);
+    printing::words(b";");
+    printing::ranks(n);
+}
+
+// Builds the index of a text in slices, with sizes that are handed back or without.
+fn build_either(
+    numbers: Numbers,
+    sized: bool,
+    n: &mut [u32],
+    l: &mut [u8],
+    u: &mut [u32],
+    k: &mut [u16],
+) {
+    if sized {
+        build_sized_in(numbers, n, l, u, k);
+    } else {
+        build_in(numbers, n, l, u, k);
+    }
+}
+
+// Builds the index of a text in slices of these sizes, at most 768 elements and 20 bytes.
+fn room(numbers: Numbers, sized: bool) {
+    let mut lengths = [7u32; 768];
     let mut bytes = [7u8; 20];
-    let mut superblocks = [7u32; 300];
-    let mut blocks = [7u16; 300];
-    let n = base::least(numbers.values[0], 300);
+    let mut superblocks = [7u32; 768];
+    let mut blocks = [7u16; 768];
+    let n = base::least(numbers.values[0], 768);
     let l = base::least(numbers.values[1], 20);
-    let u = base::least(numbers.values[2], 300);
-    let k = base::least(numbers.values[3], 300);
-    build_in(
+    let u = base::least(numbers.values[2], 768);
+    let k = base::least(numbers.values[3], 768);
+    build_either(
         numbers,
+        sized,
         &mut lengths[..n],
         &mut bytes[..l],
         &mut superblocks[..u],
@@ -158,7 +221,9 @@ pub fn show(state: State, line: &[u8], numbers: Numbers) {
         b'a' => ask_any(state, numbers),
         b'c' => check(state),
         b'q' => quote(state, numbers),
-        b'r' => room(numbers),
+        b'n' => needs(numbers),
+        b'r' => room(numbers, false),
+        b'h' => room(numbers, true),
         b'e' => encode(numbers),
         b'd' => decode(numbers),
         b't' => text(state, line, numbers),

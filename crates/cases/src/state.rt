@@ -5,7 +5,6 @@ use crate::given::Numbers;
 use listing::Listing;
 use small_indexes::SmallIndex;
 use small_indexes::shape_of;
-use small_indexes::sizes_of;
 
 // The index that calls are lent, the lent words, the state of the listing, and the word list.
 pub struct State {

@@ -8,6 +8,7 @@ ghost use lib.ListN.{length};
 ghost use Rattle.dense.specs.Streams.{writeStreamAnswer, writeStreamExit, readStreamAnswer, readStreamExit};
 ghost use Rattle.index.specs.Arrays.{arrays};
 ghost use Rattle.index.specs.Entries.{buildAnswer, buildExit, checkAnswer};
+ghost use Rattle.measuring.specs.Sizes.{measuredOf, buildSizedAnswer, buildSizedExit};
 ghost use Rattle.questions.specs.Answering.{askAnswer};
 ghost use Rattle.questions.specs.Passages.{passageAnswer, passageExit};
 ghost use Rattle.listing.specs.Paging.{opened, callOf, pageOf};
@@ -18,6 +19,8 @@ use base::Answer;
 use index::Shape;
 use listing::Listing;
 use listing::Page;
+use measuring::IndexSizes;
+use measuring::Measured;
 use questions::Question;
 
 // Writes a text as a stream to the front of a slice, and answers the number of bytes. Refusals 1, 2,
@@ -60,6 +63,36 @@ pub extern "C" fn concordance_build(
         ≡ buildExit 128 shape (now (text .entry)) (arrays (now (lengths .entry)) (now (bytes .entry)) (now (superblocks .entry)) (now (blocks .entry))) ⌝ }
 {
     building::build(shape, text, lengths, bytes, superblocks, blocks)
+}
+
+// Measures a text: the sizes of its index beside the answer 0. Refusals 1, 2, 3, and 4 with the first
+// place whose rank is not below the vocabulary's size, have four zeros beside them.
+#[no_mangle]
+pub extern "C" fn concordance_measure(shape: Shape, text: &[u32]) -> Measured
+    ensures { λ r. ⌜ r ≡ measuredOf 128 shape (now (text .entry)) ⌝ }
+{
+    measuring::measure(shape, text)
+}
+
+// Builds the index of a text with the four sizes that measuring gave, in front of the four slices,
+// and answers the number of node bytes. Refusals 1, 2, 3, 4 with the first place whose rank is not
+// below the vocabulary's size, 16 if the sizes are not those of the text, and 5 leave the slices as
+// they were.
+#[no_mangle]
+pub extern "C" fn concordance_build_sized(
+    shape: Shape,
+    sizes: IndexSizes,
+    text: &[u32],
+    lengths: &mut [u32],
+    bytes: &mut [u8],
+    superblocks: &mut [u32],
+    blocks: &mut [u16],
+) -> Answer
+    ensures answered { λ r. ⌜ r ≡ buildSizedAnswer 128 shape sizes (now (text .entry)) (arrays (now (lengths .entry)) (now (bytes .entry)) (now (superblocks .entry)) (now (blocks .entry))) ⌝ }
+    ensures filled { λ _. ⌜ arrays (now (lengths .exit)) (now (bytes .exit)) (now (superblocks .exit)) (now (blocks .exit))
+        ≡ buildSizedExit 128 shape sizes (now (text .entry)) (arrays (now (lengths .entry)) (now (bytes .entry)) (now (superblocks .entry)) (now (blocks .entry))) ⌝ }
+{
+    building::build_sized(shape, sizes, text, lengths, bytes, superblocks, blocks)
 }
 
 // Checks an index: 0 is answered exactly if some text of the vocabulary has the four slices as its

@@ -2,6 +2,7 @@
 // what another result would mean.
 use base::Answer;
 use listing::Listing;
+use measuring::IndexSizes;
 use questions::Question;
 use small_indexes::SmallIndex;
 use small_indexes::shape_of;
@@ -213,11 +214,55 @@ fn list_phrase() {
     end(b"not 3: the count is unlike the listing");
 }
 
+// Builds a text in slices of two nodes, eight bytes and two rows of counters of each kind, with sizes
+// that are handed back.
+fn build(text: &[u32], sizes: IndexSizes) -> Answer {
+    let mut lengths = [0u32; 2];
+    let mut bytes = [0u8; 8];
+    let mut superblocks = [0u32; 512];
+    let mut blocks = [0u16; 512];
+    building::build_sized(
+        shape_of(130, 8, 1),
+        sizes,
+        text,
+        &mut lengths,
+        &mut bytes,
+        &mut superblocks,
+        &mut blocks,
+    )
+}
+
+// Measures a text before memory is lent, and builds it with its sizes: as it is, and with a word
+// changed since.
+fn measure_text() {
+    let text = [0, 128, 0, 129, 128];
+    let measured = measuring::measure(shape_of(130, 8, 1), &text);
+    let sizes = measured.sizes;
+    start(
+        b"What 0 128 0 129 128 needs, before memory is lent: nodes, bytes and rows of each counter",
+    );
+    printing::number(sizes.nodes);
+    printing::words(b" ");
+    printing::number(sizes.bytes);
+    printing::words(b" ");
+    printing::number(sizes.superblock_rows);
+    printing::words(b" ");
+    printing::number(sizes.block_rows);
+    end(b"not 2 8 2 2: the memory that is lent is too little or too much");
+    start(b"With these sizes it is built in slices of just so much, and has as many bytes");
+    value(build(&text, sizes));
+    end(b"not 8: the sizes are not those that building needs");
+    start(b"With its last word changed to 0 since it was measured");
+    refused(build(&[0, 128, 0, 129, 0], sizes));
+    end(b"not 16: it is not noticed that the text was changed");
+}
+
 fn main() {
     printing::words(
         b"Each line says what is tried and what came of it, and in brackets what another ",
     );
     printing::words(b"result would mean. A word is written as its rank.\n");
+    measure_text();
     check_arrays();
     read_words();
     read_passage();

@@ -11,7 +11,7 @@ use Rattle.base.specs.declared.Answer.{Answer}
 use Rattle.index.specs.declared.Shape.{Shape}
 use Rattle.index.specs.Arrays.{Arrays, arrays}
 use Rattle.index.specs.Entries.{buildAnswer, buildExit}
-use Rattle.small_indexes.specs.declared.Sizes.{Sizes}
+use Rattle.small_indexes.specs.declared.LentSizes.{LentSizes}
 use Rattle.small_indexes.specs.declared.SmallIndex.{SmallIndex}
 use Rattle.small_indexes.specs.Lent.{lent, lentArrays, sevens, builtIndex}
 
@@ -35,7 +35,7 @@ pub four-lent : (small : SmallIndex) {ls ys us ks : List ℕ} →
 four-lent small p q r s = rw (p, q, r, s)
 
 -- what was built in arrays of nothing but 7 is the index that the contract says
-pub built-is : (shape : Shape) (t : List ℕ) (sizes : Sizes) (answer : Answer) (a : Arrays) →
+pub built-is : (shape : Shape) (t : List ℕ) (sizes : LentSizes) (answer : Answer) (a : Arrays) →
     answer ≡ buildAnswer 128 shape t (arrays (replicate 16514 7) (replicate 20 7) (replicate 2560 7) (replicate 2560 7)) →
     a ≡ buildExit 128 shape t (arrays (replicate 16514 7) (replicate 20 7) (replicate 2560 7) (replicate 2560 7)) →
     _≡_ {A = SmallIndex} (record { lengths = a .lengths; bytes = a .bytes; superblocks = a .superblocks; blocks = a .blocks; sizes = sizes; shape = shape; answer = answer })

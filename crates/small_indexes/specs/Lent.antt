@@ -5,20 +5,16 @@ use lib.ListN.{take, replicate}
 use Rattle.index.specs.declared.Shape.{Shape}
 use Rattle.index.specs.Arrays.{Arrays, arrays}
 use Rattle.index.specs.Entries.{buildAnswer, buildExit}
-use Rattle.small_indexes.specs.declared.Sizes.{Sizes}
+use Rattle.small_indexes.specs.declared.LentSizes.{LentSizes}
 use Rattle.small_indexes.specs.declared.SmallIndex.{SmallIndex}
 
 -- the part of an array that is lent: its first n elements, or all where it has fewer
 abbrev pub lent : ℕ → List ℕ → List ℕ
 lent n xs = take n xs
 
--- the parameters V, B and b
-abbrev pub shapeOf : ℕ → ℕ → ℕ → Shape
-shapeOf vocabulary block per = record { vocabulary = vocabulary; block = block; «per_superblock» = per }
-
 -- how many elements of each array are lent
-abbrev pub sizesOf : ℕ → ℕ → ℕ → ℕ → Sizes
-sizesOf nodes bytes superblocks blocks = record { nodes = nodes; bytes = bytes; superblocks = superblocks; blocks = blocks }
+abbrev pub lentSizes : ℕ → ℕ → ℕ → ℕ → LentSizes
+lentSizes nodes bytes superblocks blocks = record { nodes = nodes; bytes = bytes; superblocks = superblocks; blocks = blocks }
 
 -- the four arrays that a call is lent
 abbrev pub lentArrays : SmallIndex → Arrays
@@ -34,7 +30,7 @@ unfoldable pub sevens : Arrays
 sevens = arrays (replicate 16514 7) (replicate 20 7) (replicate 2560 7) (replicate 2560 7)
 
 -- a small index with these arrays: its answer is that of building
-unfoldable pub builtIndex : Shape → List ℕ → Sizes → SmallIndex
+unfoldable pub builtIndex : Shape → List ℕ → LentSizes → SmallIndex
 builtIndex shape t sizes =
     record {
       lengths = buildExit 128 shape t sevens .lengths;
@@ -60,7 +56,7 @@ reshaped shape small =
     }
 
 -- the same arrays, V, B, b and answer in other sizes
-abbrev pub resized : Sizes → SmallIndex → SmallIndex
+abbrev pub resized : LentSizes → SmallIndex → SmallIndex
 resized sizes small =
     record {
       lengths = small .lengths;

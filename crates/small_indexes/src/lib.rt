@@ -1,11 +1,12 @@
 // Indexes of small texts, held by value, for the programs that try the entries: each is built once
 // and is then checked, asked and listed, whole or damaged.
 ghost use mathlib.Core.Path.{_≡_};
+ghost use Rattle.index.specs.Arrays.{shapeOf};
 ghost use Rattle.index.specs.Entries.{checkAnswer};
 ghost use Rattle.questions.specs.Answering.{askAnswer};
 ghost use Rattle.questions.specs.Passages.{passageAnswer, passageExit};
 ghost use Rattle.listing.specs.Paging.{callOf, pageOf};
-ghost use Rattle.small_indexes.specs.Lent.{lent, shapeOf, sizesOf, lentArrays, builtIndex, reshaped, resized};
+ghost use Rattle.small_indexes.specs.Lent.{lent, lentSizes, lentArrays, builtIndex, reshaped, resized};
 use base::Answer;
 use index::Shape;
 use listing::Listing;
@@ -13,7 +14,7 @@ use listing::Page;
 use questions::Question;
 
 // How many elements of each array are lent.
-pub struct Sizes {
+pub struct LentSizes {
     pub nodes: usize,
     pub bytes: usize,
     pub superblocks: usize,
@@ -28,7 +29,7 @@ pub struct SmallIndex {
     pub bytes: [u8; 20],
     pub superblocks: [u32; 2560],
     pub blocks: [u16; 2560],
-    pub sizes: Sizes,
+    pub sizes: LentSizes,
     pub shape: Shape,
     pub answer: Answer,
 }
@@ -44,11 +45,11 @@ pub fn shape_of(vocabulary: usize, block: usize, per_superblock: usize) -> Shape
     }
 }
 
-// The sizes of an index.
-pub fn sizes_of(nodes: usize, bytes: usize, superblocks: usize, blocks: usize) -> Sizes
-    ensures { λ r. ⌜ r ≡ sizesOf nodes bytes superblocks blocks ⌝ }
+// How many elements of each array are lent.
+pub fn lent_sizes(nodes: usize, bytes: usize, superblocks: usize, blocks: usize) -> LentSizes
+    ensures { λ r. ⌜ r ≡ lentSizes nodes bytes superblocks blocks ⌝ }
 {
-    Sizes {
+    LentSizes {
         nodes,
         bytes,
         superblocks,
@@ -82,7 +83,7 @@ fn front_blocks(counters: &[u16], n: usize) -> &[u16]
 
 impl SmallIndex {
     // Builds the index of a text in arrays that hold nothing but 7, to be lent in these sizes.
-    pub fn built(shape: Shape, text: &[u32], sizes: Sizes) -> SmallIndex
+    pub fn built(shape: Shape, text: &[u32], sizes: LentSizes) -> SmallIndex
         ensures { λ r. ⌜ r ≡ builtIndex shape (now (text .entry)) sizes ⌝ }
     {
         let mut lengths = [7u32; 16514];
@@ -110,12 +111,12 @@ impl SmallIndex {
 
     // Builds the index of a text with B 256 and b 8, so that it has one row of counters of each kind.
     pub fn of(vocabulary: usize, text: &[u32], nodes: usize, bytes: usize) -> SmallIndex
-        ensures { λ r. ⌜ r ≡ builtIndex (shapeOf vocabulary 256 8) (now (text .entry)) (sizesOf nodes bytes 256 256) ⌝ }
+        ensures { λ r. ⌜ r ≡ builtIndex (shapeOf vocabulary 256 8) (now (text .entry)) (lentSizes nodes bytes 256 256) ⌝ }
     {
         SmallIndex::built(
             shape_of(vocabulary, 256, 8),
             text,
-            sizes_of(nodes, bytes, 256, 256),
+            lent_sizes(nodes, bytes, 256, 256),
         )
     }
 
@@ -135,9 +136,9 @@ impl SmallIndex {
         upper: usize,
         lower: usize,
     ) -> SmallIndex
-        ensures { λ r. ⌜ r ≡ resized (sizesOf nodes bytes upper lower) self ⌝ }
+        ensures { λ r. ⌜ r ≡ resized (lentSizes nodes bytes upper lower) self ⌝ }
     {
-        self.sizes = sizes_of(nodes, bytes, upper, lower);
+        self.sizes = lent_sizes(nodes, bytes, upper, lower);
         self
     }
 

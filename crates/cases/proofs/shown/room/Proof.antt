@@ -33,29 +33,29 @@ least-requires-4 c κs = search needs
 array-borrow-prefix-lengths : tie.Need-array-borrow-prefix-lengths
 array-borrow-prefix-lengths c = search needs
 
-slice-aggregate-build-in : tie.Need-slice-aggregate-build-in
-slice-aggregate-build-in c = sym (length-take-le _ _ (omega arith))
+slice-aggregate-build-either : tie.Need-slice-aggregate-build-either
+slice-aggregate-build-either c = sym (length-take-le _ _ (omega arith))
 
 array-borrow-prefix-bytes : tie.Need-array-borrow-prefix-bytes
 array-borrow-prefix-bytes c = search needs
 
-slice-aggregate-build-in-2 : tie.Need-slice-aggregate-build-in-2
-slice-aggregate-build-in-2 c = sym (length-take-le _ _ (omega arith))
+slice-aggregate-build-either-2 : tie.Need-slice-aggregate-build-either-2
+slice-aggregate-build-either-2 c = sym (length-take-le _ _ (omega arith))
 
 array-borrow-prefix-superblocks : tie.Need-array-borrow-prefix-superblocks
 array-borrow-prefix-superblocks c = search needs
 
-slice-aggregate-build-in-3 : tie.Need-slice-aggregate-build-in-3
-slice-aggregate-build-in-3 c = sym (length-take-le _ _ (omega arith))
+slice-aggregate-build-either-3 : tie.Need-slice-aggregate-build-either-3
+slice-aggregate-build-either-3 c = sym (length-take-le _ _ (omega arith))
 
 array-borrow-prefix-blocks : tie.Need-array-borrow-prefix-blocks
 array-borrow-prefix-blocks c = search needs
 
-slice-aggregate-build-in-4 : tie.Need-slice-aggregate-build-in-4
-slice-aggregate-build-in-4 c = sym (length-take-le _ _ (omega arith))
+slice-aggregate-build-either-4 : tie.Need-slice-aggregate-build-either-4
+slice-aggregate-build-either-4 c = sym (length-take-le _ _ (omega arith))
 
-build-in-requires : tie.Need-build-in-requires
-build-in-requires c κs = search needs
+build-either-requires : tie.Need-build-either-requires
+build-either-requires c κs = search needs
 
 returns : tie.Need-returns
 returns c = search needs
@@ -73,12 +73,12 @@ room-spec =
     element-copy-out-least-4
     least-requires-4
     array-borrow-prefix-lengths
-    slice-aggregate-build-in
+    slice-aggregate-build-either
     array-borrow-prefix-bytes
-    slice-aggregate-build-in-2
+    slice-aggregate-build-either-2
     array-borrow-prefix-superblocks
-    slice-aggregate-build-in-3
+    slice-aggregate-build-either-3
     array-borrow-prefix-blocks
-    slice-aggregate-build-in-4
-    build-in-requires
+    slice-aggregate-build-either-4
+    build-either-requires
     returns)
