@@ -239,7 +239,7 @@ fn measure_text() {
     let measured = measuring::measure(shape_of(130, 8, 1), &text);
     let sizes = measured.sizes;
     start(
-        b"What 0 128 0 129 128 needs, before memory is lent: nodes, bytes and rows of each counter",
+        b"What 0 128 0 129 128 needs, before memory is lent: nodes, bytes, superblock rows, block rows",
     );
     printing::number(sizes.nodes);
     printing::words(b" ");

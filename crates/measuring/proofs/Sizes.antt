@@ -177,10 +177,18 @@ module _ (s : ℕ) (shape : Shape) (t : List ℕ) where
   sizes-blocks = sym (ap length (sym (index-blocks s shape t)) ∙ block-rows-length (shape .block) (shape .«per_superblock») (indexOf s shape t .bytes))
 
   -- they are known from V and the length of the stream
-  pub sizes-are : Closing s → WithinLimits s shape → IsText (shape .vocabulary) t
-      → sizesOf s shape t ≡ sizes (nodeCount s (shape .vocabulary)) (length (stream s t)) (suc (length (stream s t) / (shape .block * shape .«per_superblock»))) (suc (length (stream s t) / shape .block))
+  pub sizes-from : Closing s → WithinLimits s shape → IsText (shape .vocabulary) t → {n l u k : ℕ}
+      → n ≡ nodeCount s (shape .vocabulary) → l ≡ length (stream s t) → u ≡ suc (l / (shape .block * shape .«per_superblock»)) → k ≡ suc (l / shape .block)
+      → sizes n l u k ≡ sizesOf s shape t
   unfolding sizesOf
-  sizes-are within limits text = rw (count-lengths s shape t, count-bytes s shape t within limits text)
+  sizes-from within limits text nodes bytes uppers lowers =
+      let l = bytes ∙ sym (count-bytes s shape t within limits text) in
+      λ i. record {
+        nodes = (nodes ∙ sym (count-lengths s shape t)) i;
+        bytes = l i;
+        «superblock_rows» = (uppers ∙ ap (λ (x : ℕ). suc (x / (shape .block * shape .«per_superblock»))) l) i;
+        «block_rows» = (lowers ∙ ap (λ (x : ℕ). suc (x / shape .block)) l) i;
+      }
 
   -- L is the length of the stream of a text that measuring accepts
   pub measured-bytes : Closing s → isAccepted (measureAnswer s shape t) ≡ true → sizesOf s shape t .bytes ≡ length (stream s t)

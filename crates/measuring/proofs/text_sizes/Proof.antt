@@ -3,7 +3,7 @@
 use native.Mathlib.Nat.{mul-pos}
 use borrow.Author.Needs.{needs}
 use Rattle.index.proofs.Texts.{stream-short}
-use Rattle.measuring.proofs.Sizes.{sizes-are}
+use Rattle.measuring.proofs.Sizes.{sizes-from}
 use Rattle.measuring.proofs.text_sizes.Statement.{statement}
 use Rattle.measuring.proofs.text_sizes.Tie as tie
 
@@ -26,7 +26,7 @@ row-count-requires-2 c κs = let start = c .before .before .before .before .befo
 
 returns : tie.Need-returns
 returns c = let start = c .before .before .before .before .before .before in
-    rw (c .before .row-count .ensures, c .row-count2 .ensures, c .before .before .before .before .node-count .ensures, c .before .before .before .stream-length .ensures, sizes-are (start .args .s) (start .args .shape) (start .args .text .now) (start .pre .0) (start .pre .1) (start .pre .2))
+    sizes-from (start .args .s) (start .args .shape) (start .args .text .now) (start .pre .0) (start .pre .1) (start .pre .2) (c .before .before .before .before .node-count .ensures) (c .before .before .before .stream-length .ensures) (c .before .row-count .ensures) (c .row-count2 .ensures)
 
 pub text-sizes-spec : {M : Type 1} → statement M
 text-sizes-spec =
