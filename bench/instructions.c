@@ -67,6 +67,13 @@ int main(int count, char **arguments) {
     uint64_t sum = built.refusal;
     if (call == 0) {
         sum += concordance_check(shape, INDEX).refusal;
+    } else if (call == 6) {
+        for (int i = 0; i < PAGES; i++) {
+            uint32_t lines[LINES];
+            const concordance_page page =
+                concordance_list(concordance_open(), shape, INDEX, words, 2 * QUESTIONS, 2 * i, 2, lines, LINES);
+            for (size_t k = 0; k < page.answer.value; k++) sum += lines[k];
+        }
     } else if (call == 7) {
         const concordance_measured measured = concordance_measure(shape, text, WORDS);
         const concordance_sizes sizes = measured.sizes;
@@ -76,13 +83,6 @@ int main(int count, char **arguments) {
     } else if (call == 9) {
         const concordance_sizes sizes = {nodes, size, size / (BLOCK * PER) + 1, size / BLOCK + 1};
         sum += concordance_build_sized(shape, sizes, text, WORDS, INDEX).value;
-    } else if (call == 6) {
-        for (int i = 0; i < PAGES; i++) {
-            uint32_t lines[LINES];
-            const concordance_page page =
-                concordance_list(concordance_open(), shape, INDEX, words, 2 * QUESTIONS, 2 * i, 2, lines, LINES);
-            for (size_t k = 0; k < page.answer.value; k++) sum += lines[k];
-        }
     } else {
         sum += concordance_answer_sheet(shape, INDEX, words, 2 * QUESTIONS, questions, QUESTIONS, answers, 2 * QUESTIONS).refusal;
         for (int i = 0; i < 2 * QUESTIONS; i++) sum = sum * 31 + answers[i];

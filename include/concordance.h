@@ -9,7 +9,7 @@
  *
  * Sizes. The codeword of a rank has 1 byte up to 127, 2 from 128 to 16,511, 3 from 16,512 on; L is their sum over the text, at most 3 * n.
  * An index has N = V / 128 nodes, rounded up. The arrays have N, L, 256 * (L / S + 1) and 256 * (L / B + 1) elements (whole division).
- * concordance_measure gives these numbers of a text, so that they are known before memory is lent.
+ * concordance_measure gives N, L and the numbers of rows, L / S + 1 and L / B + 1, of a text before memory is lent for it.
  *
  * Slices. Each pointer is followed by the number of its elements, any number. It is not null and aligned for its element, also where the
  * number is 0, and the elements are initialized. A slice that is written (no `const`) overlaps no other slice of the call. Lent memory does

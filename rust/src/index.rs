@@ -43,8 +43,8 @@ impl IndexSizes {
         lengths.saturating_add(self.bytes).saturating_add(superblocks).saturating_add(blocks)
     }
 
-    /// Whether the nodes and the bytes are within their limits, and the rows are no more than an index of so many bytes has at most: one
-    /// block row for each byte and one more, and no more superblock rows than block rows.
+    /// Whether the sizes are within the limits of an index: the nodes and the bytes are not more than the largest vocabulary and text need,
+    /// and there is at most one block row for each byte and one more, and not more superblock rows than block rows.
     fn fits(self) -> bool {
         (1..=MAX_VOCABULARY.div_ceil(CLOSING)).contains(&self.nodes)
             && self.bytes <= MAX_WORDS * LONGEST_CODEWORD
@@ -54,8 +54,8 @@ impl IndexSizes {
 }
 
 impl Arrays {
-    /// Arrays with as many elements as an index of these sizes needs; empty where a size is outside its limits, so that nothing is
-    /// allocated for numbers that no index has.
+    /// Arrays with as many elements as an index of these sizes needs; empty where a size is outside the limits of an index, so that no more
+    /// is allocated than some index needs.
     pub fn sized(sizes: IndexSizes) -> Arrays {
         if !sizes.fits() {
             return Arrays::default();
