@@ -30,6 +30,11 @@ struct Engine {
     concordance_shape shape;
     twin::Arrays a;
 
+    concordance_measured measure(const std::vector<uint32_t> &text) const { return concordance_measure(shape, text.data(), text.size()); }
+    concordance_answer build_sized(concordance_sizes sizes, const std::vector<uint32_t> &text) {
+        return concordance_build_sized(shape, sizes, text.data(), text.size(), a.lengths.data(), a.lengths.size(), a.bytes.data(),
+                                       a.bytes.size(), a.superblocks.data(), a.superblocks.size(), a.blocks.data(), a.blocks.size());
+    }
     concordance_answer build(const std::vector<uint32_t> &text) {
         return concordance_build(shape, text.data(), text.size(), a.lengths.data(), a.lengths.size(), a.bytes.data(), a.bytes.size(),
                                  a.superblocks.data(), a.superblocks.size(), a.blocks.data(), a.blocks.size());
@@ -348,6 +353,19 @@ static void measure(size_t n, uint32_t block, uint32_t per, bool peers) {
     const std::vector<uint32_t> text = zipf_text(n, vocabulary, 20261115);
     twin::Arrays made = twin::sized(vocabulary, block, per, twin::stream_length(text));
     Engine engine{{vocabulary, block, per}, made};
+    concordance_sizes sizes;
+    twin::Sizes theirs;
+    const Both measured = in_turn(
+        runs, [&] { sizes = engine.measure(text).sizes; },
+        [&] { must(twin::measure(text, vocabulary, block, per, theirs) == n, "measure"); });
+    must(sizes.nodes == theirs.nodes && sizes.bytes == theirs.bytes && sizes.superblock_rows == theirs.superblock_rows &&
+             sizes.block_rows == theirs.block_rows,
+         "measure");
+    table.add(n, "measure", measured.one, "twin", measured.other);
+    const Both sized = in_turn(
+        runs, [&] { must(engine.build_sized(sizes, text).refusal == 0, "build_sized"); }, [&] { twin::build(text, made); });
+    must(engine.a == made, "build_sized");
+    table.add(n, "build_sized", sized.one, "twin", sized.other);
     const Both built = in_turn(
         runs, [&] { must(engine.build(text).refusal == 0, "build"); }, [&] { twin::build(text, made); });
     must(engine.a == made, "build");
@@ -376,7 +394,8 @@ static void plot(const char *file) {
     std::ofstream out(file);
     out << "<svg xmlns=\"http://www.w3.org/2000/svg\" viewBox=\"0 0 760 420\" font-family=\"sans-serif\" font-size=\"11\">\n"
         << "<text x=\"20\" y=\"20\" font-size=\"14\">Seconds of a call against the words of the text (both in powers of ten): engine solid, twin dashed</text>\n";
-    const char *colours[] = {"#1b6ca8", "#c0392b", "#2e8b57", "#8e44ad", "#b8860b", "#444444", "#e67e22", "#16a085", "#7f8c8d", "#d35400", "#e84393"};
+    const char *colours[] = {"#1b6ca8", "#c0392b", "#2e8b57", "#8e44ad", "#b8860b", "#444444", "#e67e22",
+                             "#16a085", "#7f8c8d", "#d35400", "#e84393", "#5d4037", "#00838f"};
     auto x = [](double words) { return 60 + 360 * (std::log10(words) - 6) / 1.3; };
     auto y = [](double time) { return 380 - 54 * (std::log10(time) + 4); };
     std::vector<std::string> names;
@@ -389,7 +408,7 @@ static void plot(const char *file) {
             engine += std::to_string(x(line.words)) + "," + std::to_string(y(line.engine)) + " ";
             twin += std::to_string(x(line.words)) + "," + std::to_string(y(line.peer)) + " ";
         }
-        const char *colour = colours[i % 11];
+        const char *colour = colours[i % 13];
         out << "<polyline points=\"" << engine << "\" fill=\"none\" stroke=\"" << colour << "\" stroke-width=\"1.6\"/>\n"
             << "<polyline points=\"" << twin << "\" fill=\"none\" stroke=\"" << colour << "\" stroke-dasharray=\"4 3\"/>\n"
             << "<text x=\"460\" y=\"" << 60 + 18 * i << "\" fill=\"" << colour << "\">" << names[i] << "</text>\n";

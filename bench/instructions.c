@@ -5,8 +5,9 @@
  *   cc -O2 -Iinclude bench/instructions.c target/staticlib/libconcordance.a -o target/instructions
  *   valgrind --tool=callgrind --callgrind-out-file=/dev/null target/instructions CALL
  *
- * CALL is 0 for the check, 1, 3, 4 or 5 for a sheet of 400 questions of that kind, 6 for 20 pages of 20 lines. The text has 400,000 words, a few of
- * them very frequent, so that phrases and neighbours have many hits. A sum of the answers is printed: it is the same with every archive.
+ * CALL is 0 for the check, 1, 3, 4 or 5 for a sheet of 400 questions of that kind, 6 for 20 pages of 20 lines, 7 for measuring, 8 for building, 9
+ * for building by the sizes that are measured. Each run builds the index once before its call. The text has 400,000 words, a few of them very
+ * frequent, so that phrases and neighbours have many hits. A sum of the answers is printed: it is the same with every archive.
  */
 #include "concordance.h"
 
@@ -73,6 +74,15 @@ int main(int count, char **arguments) {
                 concordance_list(concordance_open(), shape, INDEX, words, 2 * QUESTIONS, 2 * i, 2, lines, LINES);
             for (size_t k = 0; k < page.answer.value; k++) sum += lines[k];
         }
+    } else if (call == 7) {
+        const concordance_measured measured = concordance_measure(shape, text, WORDS);
+        const concordance_sizes sizes = measured.sizes;
+        sum += measured.answer.refusal + sizes.nodes + sizes.bytes + sizes.superblock_rows + sizes.block_rows;
+    } else if (call == 8) {
+        sum += concordance_build(shape, text, WORDS, INDEX).value;
+    } else if (call == 9) {
+        const concordance_sizes sizes = {nodes, size, size / (BLOCK * PER) + 1, size / BLOCK + 1};
+        sum += concordance_build_sized(shape, sizes, text, WORDS, INDEX).value;
     } else {
         sum += concordance_answer_sheet(shape, INDEX, words, 2 * QUESTIONS, questions, QUESTIONS, answers, 2 * QUESTIONS).refusal;
         for (int i = 0; i < 2 * QUESTIONS; i++) sum = sum * 31 + answers[i];

@@ -19,8 +19,8 @@ static uint32_t text[WORDS], lengths[NODES], superblocks[SUPERBLOCKS], into[WORD
 static uint16_t blocks[BLOCKS];
 static uint8_t bytes[MOST_BYTES], stream[MOST_BYTES];
 static char list[LISTED * 8], plain[WORDS * 9];
-static size_t used, superblocks_used, blocks_used;
-#define INDEX lengths, NODES, bytes, used, superblocks, superblocks_used, blocks, blocks_used
+static concordance_sizes sizes;
+#define INDEX lengths, sizes.nodes, bytes, sizes.bytes, superblocks, 256 * sizes.superblock_rows, blocks, 256 * sizes.block_rows
 
 static void must(concordance_answer answer) {
     if (answer.refusal != CONCORDANCE_ACCEPTED) {
@@ -30,7 +30,9 @@ static void must(concordance_answer answer) {
 }
 
 static void write_stream(void) { must(concordance_write_stream(VOCABULARY, text, WORDS, stream, MOST_BYTES)); }
-static void read_stream(void) { must(concordance_read_stream(stream, used, into, WORDS)); }
+static void read_stream(void) { must(concordance_read_stream(stream, sizes.bytes, into, WORDS)); }
+static void measure(void) { must(concordance_measure(shape, text, WORDS).answer); }
+static void build_sized(void) { must(concordance_build_sized(shape, sizes, text, WORDS, INDEX)); }
 static void build(void) { must(concordance_build(shape, text, WORDS, INDEX)); }
 static void check(void) { must(concordance_check(shape, INDEX)); }
 static void passage(void) { must(concordance_passage(shape, INDEX, 5, into, 100)); }
@@ -85,9 +87,8 @@ static void prepare(void) {
     for (int i = 0; i < LISTED; i++) end += sprintf(end, "w%d\n", i);
     end = plain;
     for (int i = 0; i < WORDS; i++) end += sprintf(end, "W%d, ", i * 10 % LISTED);
-    used = concordance_write_stream(VOCABULARY, text, WORDS, stream, MOST_BYTES).value;
-    superblocks_used = 256 * (used / (BLOCK * PER_SUPERBLOCK) + 1);
-    blocks_used = 256 * (used / BLOCK + 1);
+    sizes = concordance_measure(shape, text, WORDS).sizes;
+    write_stream();
     build();
 }
 
@@ -95,8 +96,9 @@ int main(void) {
     static const struct {
         const char *name;
         void (*call)(void);
-    } entries[] = {{"write_stream", write_stream}, {"read_stream", read_stream}, {"build", build}, {"check", check}, {"ask", ask},
-                   {"answer_sheet", answer_sheet}, {"passage", passage}, {"open", open_listing}, {"list", list_page}, {"read_text", read_text}};
+    } entries[] = {{"write_stream", write_stream}, {"read_stream", read_stream}, {"measure", measure}, {"build_sized", build_sized},
+                   {"build", build}, {"check", check}, {"ask", ask}, {"answer_sheet", answer_sheet}, {"passage", passage},
+                   {"open", open_listing}, {"list", list_page}, {"read_text", read_text}};
     prepare();
     for (size_t i = 0; i < sizeof entries / sizeof entries[0]; i++) {
         printf("%s: %zu bytes\n", entries[i].name, needed(entries[i].call));

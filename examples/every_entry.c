@@ -1,4 +1,4 @@
-/* Calls each of the ten entries on a small text, the sample of the scope paper, and shows a refusal of each entry that has one to teach. */
+/* Calls each of the twelve entries on a small text, the sample of the scope paper, and shows a refusal of each entry that has one to teach. */
 #include "concordance.h"
 
 #include <stdio.h>
@@ -34,6 +34,17 @@ static void show_bytes(const uint8_t *values, size_t count) {
     printf("\n");
 }
 
+static void show_measured(const char *call, concordance_measured measured) {
+    show(call, measured.answer);
+    const concordance_sizes sizes = measured.sizes;
+    printf(" nodes %zu, bytes %zu, superblock rows %zu, block rows %zu\n", sizes.nodes, sizes.bytes, sizes.superblock_rows, sizes.block_rows);
+}
+
+static void show_nodes(void) {
+    show_numbers(lengths, NODES);
+    show_bytes(bytes, BYTES);
+}
+
 /* Entries 1 and 2: a text as a stream of codewords, and back. */
 static void streams(void) {
     uint8_t stream[BYTES];
@@ -48,11 +59,27 @@ static void streams(void) {
     show("read_stream, without the last byte", concordance_read_stream(stream, BYTES - 1, read, WORDS));
 }
 
-/* Entries 3 and 4: the index of the text, and its check. */
+/* Entries 3 and 4: what the index of the text needs, and its building by these sizes; a text that was changed between is noticed by its sizes. */
+static void index_in_two_calls(void) {
+    const concordance_measured measured = concordance_measure(shape, text, WORDS);
+    show_measured("measure", measured);
+    const concordance_shape smaller = {129, 256, 8};
+    show_measured("measure, V 129", concordance_measure(smaller, text, WORDS)); /* rank 129 stands at place 3 */
+
+    const uint32_t shorter[WORDS] = {0, 128, 0, 129, 0}; /* its stream has 7 bytes */
+    show("build_sized, a shorter stream", concordance_build_sized(shape, measured.sizes, shorter, WORDS, INDEX));
+    show_nodes(); /* as they were */
+    const uint32_t swapped[WORDS] = {0, 129, 0, 128, 128}; /* its stream has 8 bytes too */
+    show("build_sized, two words swapped", concordance_build_sized(shape, measured.sizes, swapped, WORDS, INDEX));
+    show_nodes();
+    show("build_sized", concordance_build_sized(shape, measured.sizes, text, WORDS, INDEX));
+    show_nodes();
+}
+
+/* Entries 5 and 6: the index of the text in one call, and its check. */
 static void index_of_the_text(void) {
     show("build", concordance_build(shape, text, WORDS, INDEX));
-    show_numbers(lengths, NODES);
-    show_bytes(bytes, BYTES);
+    show_nodes();
     const concordance_shape no_blocks = {VOCABULARY, 0, 8};
     show("build, B 0", concordance_build(no_blocks, text, WORDS, INDEX));
 
@@ -62,7 +89,7 @@ static void index_of_the_text(void) {
     blocks[0x80]--;
 }
 
-/* Entries 5 and 6: one question, and a sheet with a question of each kind. */
+/* Entries 7 and 8: one question, and a sheet with a question of each kind. */
 static void questions(void) {
     const uint32_t words[2] = {0, 128};
     const concordance_question sheet[6] = {
@@ -83,7 +110,7 @@ static void questions(void) {
     show("answer_sheet, room for 11 numbers", concordance_answer_sheet(shape, INDEX, words, 2, sheet, 6, answers, 11));
 }
 
-/* Entry 7: a part of the text, read back from the index. */
+/* Entry 9: a part of the text, read back from the index. */
 static void passages(void) {
     uint32_t passage[3];
     show("passage from place 2", concordance_passage(shape, INDEX, 2, passage, 3));
@@ -91,7 +118,7 @@ static void passages(void) {
     show("passage from place 3", concordance_passage(shape, INDEX, 3, passage, 3)); /* its last word would lie past the end */
 }
 
-/* Entries 8 and 9: the places of a word, on pages of one line; a refused page hands back the state, and the listing goes on. */
+/* Entries 10 and 11: the places of a word, on pages of one line; a refused page hands back the state, and the listing goes on. */
 static void pages(void) {
     const uint32_t word[1] = {128};
     uint32_t line[1];
@@ -107,7 +134,7 @@ static void pages(void) {
     } while (page.more);
 }
 
-/* Entry 10: plain text through a word list. */
+/* Entry 12: plain text through a word list. */
 static void plain_text(void) {
     const char *list = "tick\ntock\n", *plain = "Tick, tock! TICK.", *other = "tick, tack";
     uint32_t ranks[3];
@@ -119,6 +146,7 @@ static void plain_text(void) {
 
 int main(void) {
     streams();
+    index_in_two_calls();
     index_of_the_text();
     questions();
     passages();

@@ -9,6 +9,7 @@
  *
  * Sizes. The codeword of a rank has 1 byte up to 127, 2 from 128 to 16,511, 3 from 16,512 on; L is their sum over the text, at most 3 * n.
  * An index has N = V / 128 nodes, rounded up. The arrays have N, L, 256 * (L / S + 1) and 256 * (L / B + 1) elements (whole division).
+ * concordance_measure gives N, L and the numbers of rows, L / S + 1 and L / B + 1, of a text before memory is lent for it.
  *
  * Slices. Each pointer is followed by the number of its elements, any number. It is not null and aligned for its element, also where the
  * number is 0, and the elements are initialized. A slice that is written (no `const`) overlaps no other slice of the call. Lent memory does
@@ -20,9 +21,9 @@
  * 1, not many passages.
  *
  * Answers. An accepted call returns the refusal 0 and its value. A call that is turned down returns the number of its refusal, with the
- * value that the table below gives, and writes nothing: all lent memory stays as it was. Where several refusals apply, the lowest number is
- * returned, but what is worked out from the arrays of a lent index is tried only after 6. The refusals of each call are listed at it in the
- * order in which they are tried. No call keeps a pointer, and equal arguments have equal answers.
+ * value that the table below gives, and writes nothing: all lent memory stays as it was. The refusals of each call are listed at it in the
+ * order in which they are tried, and where several apply, the first of them is returned (16 is tried before 5). No call keeps a pointer, and
+ * equal arguments have equal answers.
  *
  * Stack. No call allocates memory; its tables lie on the stack. The most that a call needs, as bench/stack.c measures it on x86-64:
  *   concordance_read_text: 1463 KB
@@ -37,8 +38,11 @@
 #include <stddef.h>
 #include <stdint.h>
 
-/* The version of this header. It changes when a struct or the meaning of an entry does, so that a program can tell what it was written for. */
-#define CONCORDANCE_VERSION 1
+/*
+ * The version of this header. It changes when an entry is added, or a struct or the meaning of an entry changes, so that a program can tell
+ * what it was written for.
+ */
+#define CONCORDANCE_VERSION 2
 
 #ifdef __cplusplus
 extern "C" {
@@ -76,7 +80,9 @@ enum {
     /* first word of the text not in the list; its byte offset is returned with it */
     CONCORDANCE_REFUSED_UNLISTED = 14,
     /* a codeword of over three bytes, or a stream that ends inside one */
-    CONCORDANCE_REFUSED_STREAM = 15
+    CONCORDANCE_REFUSED_STREAM = 15,
+    /* the four sizes that are handed back are not those of the text */
+    CONCORDANCE_REFUSED_SIZES = 16
 };
 
 /* The limits. */
@@ -100,6 +106,24 @@ typedef struct {
     size_t block;
     size_t per_superblock;
 } concordance_shape;
+
+/*
+ * The sizes of an index: N, L, the number of superblock rows and the number of block rows. A row has 256 counters, so that the four arrays
+ * have nodes, bytes, 256 * superblock_rows and 256 * block_rows elements. The memory that they need is
+ * 4 * nodes + bytes + 1024 * superblock_rows + 512 * block_rows bytes.
+ */
+typedef struct {
+    size_t nodes;
+    size_t bytes;
+    size_t superblock_rows;
+    size_t block_rows;
+} concordance_sizes;
+
+/* What measuring returns: its answer, and the sizes of the index, which are four zeros where it is refused. */
+typedef struct {
+    concordance_answer answer;
+    concordance_sizes sizes;
+} concordance_measured;
 
 /*
  * A question, by its kind; the fields that a kind does not use never matter.
@@ -160,7 +184,29 @@ concordance_answer concordance_write_stream(size_t vocabulary, const uint32_t *t
 concordance_answer concordance_read_stream(const uint8_t *stream, size_t stream_len, uint32_t *text, size_t text_len);
 
 /*
- * Builds the index of a text.
+ * Measures a text: what its index needs, before memory is lent for it.
+ * Returns: in `answer` the value 0; in `sizes` N, L, L / S + 1 superblock rows and L / B + 1 block rows.
+ * Writes: nothing, accepted or refused.
+ * Refusals: 1 if V is outside its limits; 2 if text_len is above 16,777,216; 3 if B or b is 0, or S above 65,535; 4, with the first place
+ * whose rank is not below V. The value of the others is 0. `sizes` is four zeros with each.
+ */
+concordance_measured concordance_measure(concordance_shape shape, const uint32_t *text, size_t text_len);
+
+/*
+ * Builds the index of a text that was measured: `sizes` are those that concordance_measure returned, handed back with the same V, B and b.
+ * Any four numbers may come. If the text was changed since, the call notices whenever its sizes changed; otherwise it builds the index of the
+ * text that it is given.
+ * Returns: L, the number of node bytes.
+ * Writes: the four arrays of the index, each in front of its slice; the elements past them stay.
+ * Refusals: 1, 2, 3 and 4 as concordance_measure; 16 if one of the four sizes is not that of this text with this V, B and b; 5 if one of the
+ * four slices is shorter than its array. The value of 16 and 5 is 0. A refused call changes nothing.
+ */
+concordance_answer concordance_build_sized(concordance_shape shape, concordance_sizes sizes, const uint32_t *text, size_t text_len,
+                                           uint32_t *lengths, size_t lengths_len, uint8_t *bytes, size_t bytes_len,
+                                           uint32_t *superblocks, size_t superblocks_len, uint16_t *blocks, size_t blocks_len);
+
+/*
+ * Builds the index of a text, as concordance_measure and concordance_build_sized do one after the other.
  * Returns: L, the number of node bytes.
  * Writes: the four arrays of the index, each in front of its slice (their sizes are given above); the elements past them stay.
  * Refusals: 1 if V is outside its limits; 2 if text_len is above 16,777,216; 3 if B or b is 0, or S above 65,535; 4, with the first place

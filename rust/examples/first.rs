@@ -1,4 +1,4 @@
-//! Reads a plain text through a word list, builds its index, counts a phrase and lists its places.
+//! Reads a plain text through a word list, measures and builds its index, counts a phrase and lists its places.
 use concordance::{read_text, Arrays, Index, Question, Refused, Shape};
 
 fn main() -> Result<(), Refused> {
@@ -6,8 +6,10 @@ fn main() -> Result<(), Refused> {
     let text = read_text(list, b"The cat sat on the mat. The cat sat.")?;
     println!("words read: {}", text.len());
 
-    let index = Index::build(Shape::for_text(5), &text)?;
-    println!("bytes of the index: {}", index.arrays().bytes.len());
+    let shape = Shape::for_text(5);
+    println!("memory for the index: {} bytes", Index::measure(shape, &text)?.memory());
+    let index = Index::build(shape, &text)?;
+    println!("node bytes of the index: {}", index.arrays().bytes.len());
 
     let phrase = [0, 1]; // the cat
     println!("\"the cat\" stands {} times", index.count(&phrase)?);
@@ -17,7 +19,6 @@ fn main() -> Result<(), Refused> {
     }
     println!("\"sat\" stands {} times before place 6", index.ask(&[], Question::occurrences_below(2, 6))?);
 
-    let shape = index.shape();
     let mut arrays: Arrays = index.into_arrays();
     arrays.bytes[0] = 5; // says that another byte follows, in node 6, and there is only node 0
     match Index::from_arrays(shape, arrays) {

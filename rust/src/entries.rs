@@ -1,9 +1,9 @@
-//! The ten entries of the archive, over slices and as they are: nothing is sized, and the answer is the one that the engine gives.
+//! The twelve entries of the archive, over slices and as they are: no slice is made, and the answer is the one that the engine gives.
 //!
 //! Each call is safe, since an entry asks nothing of its arguments but what a slice always has: it is not null, aligned, initialized and as
 //! long as it says, and one that is written is lent to nobody else.
 use crate::ffi;
-pub use crate::ffi::{Answer, Listing, Question, RawPage, Shape};
+pub use crate::ffi::{Answer, IndexSizes, Listing, Measured, Question, RawPage, Shape};
 
 /// The four arrays of an index, lent to be read.
 #[derive(Clone, Copy, Debug)]
@@ -52,6 +52,16 @@ pub fn write_stream(vocabulary: usize, text: &[u32], stream: &mut [u8]) -> Answe
 /// Reads a stream.
 pub fn read_stream(stream: &[u8], text: &mut [u32]) -> Answer {
     unsafe { ffi::concordance_read_stream(stream.as_ptr(), stream.len(), text.as_mut_ptr(), text.len()) }
+}
+
+/// Measures a text: what its index needs.
+pub fn measure(shape: Shape, text: &[u32]) -> Measured {
+    unsafe { ffi::concordance_measure(shape, text.as_ptr(), text.len()) }
+}
+
+/// Builds the index of a text by the sizes that were measured.
+pub fn build_sized(shape: Shape, sizes: IndexSizes, text: &[u32], arrays: SlicesMut) -> Answer {
+    with_arrays!(concordance_build_sized(shape, sizes, text.as_ptr(), text.len(); arrays.as_mut_ptr;))
 }
 
 /// Builds the index of a text.

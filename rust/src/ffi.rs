@@ -18,6 +18,25 @@ pub struct Shape {
     pub per_superblock: usize,
 }
 
+/// The sizes of an index: its nodes, its node bytes, and the rows of its superblock counters and of its block counters. A row has 256
+/// counters.
+#[repr(C)]
+#[derive(Clone, Copy, Debug, PartialEq, Eq, Default)]
+pub struct IndexSizes {
+    pub nodes: usize,
+    pub bytes: usize,
+    pub superblock_rows: usize,
+    pub block_rows: usize,
+}
+
+/// What measuring a text returns: its answer, and the sizes of the index, which are four zeros where it is refused.
+#[repr(C)]
+#[derive(Clone, Copy, Debug, PartialEq, Eq)]
+pub struct Measured {
+    pub answer: Answer,
+    pub sizes: IndexSizes,
+}
+
 /// A question: its kind, ranks w and v, offset d, number p, and a part of the lent phrase words.
 #[repr(C)]
 #[derive(Clone, Copy, Debug, PartialEq, Eq)]
@@ -92,6 +111,23 @@ extern "C" {
     ) -> Answer;
 
     pub fn concordance_read_stream(stream: *const u8, stream_len: usize, text: *mut u32, text_len: usize) -> Answer;
+
+    pub fn concordance_measure(shape: Shape, text: *const u32, text_len: usize) -> Measured;
+
+    pub fn concordance_build_sized(
+        shape: Shape,
+        sizes: IndexSizes,
+        text: *const u32,
+        text_len: usize,
+        lengths: *mut u32,
+        lengths_len: usize,
+        bytes: *mut u8,
+        bytes_len: usize,
+        superblocks: *mut u32,
+        superblocks_len: usize,
+        blocks: *mut u16,
+        blocks_len: usize,
+    ) -> Answer;
 
     pub fn concordance_build(
         shape: Shape,

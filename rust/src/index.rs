@@ -1,11 +1,14 @@
 //! The index of a text, as an owned value.
 use crate::entries::{self, Slices, SlicesMut};
-use crate::ffi::{Question, Shape};
+use crate::ffi::{IndexSizes, Question, Shape};
 use crate::refusal::{Refusal, Refused};
-use crate::{LONGEST_CODEWORD, MAX_SUPERBLOCK, MAX_VOCABULARY, MAX_WORDS};
+use crate::{LONGEST_CODEWORD, MAX_VOCABULARY, MAX_WORDS};
+use std::mem::size_of;
 
 /// The number of closing byte values of the code, which is the number of ranks that end in a node.
 const CLOSING: usize = 128;
+/// The number of counters of a row.
+const ROW: usize = 256;
 
 /// The four arrays of an index.
 #[derive(Clone, Debug, PartialEq, Eq, Default)]
@@ -29,27 +32,39 @@ impl Shape {
     pub fn for_text(vocabulary: usize) -> Shape {
         Shape { vocabulary, block: 1024, per_superblock: 8 }
     }
+}
 
-    /// Whether V, B and b are within their limits.
+impl IndexSizes {
+    /// The bytes of memory that the four arrays of an index of these sizes take; `usize::MAX` where they are more.
+    pub fn memory(self) -> usize {
+        let lengths = self.nodes.saturating_mul(size_of::<u32>());
+        let superblocks = self.superblock_rows.saturating_mul(ROW * size_of::<u32>());
+        let blocks = self.block_rows.saturating_mul(ROW * size_of::<u16>());
+        lengths.saturating_add(self.bytes).saturating_add(superblocks).saturating_add(blocks)
+    }
+
+    /// Whether the sizes are within the limits of an index: the nodes and the bytes are not more than the largest vocabulary and text need,
+    /// and there is at most one block row for each byte and one more, and not more superblock rows than block rows.
     fn fits(self) -> bool {
-        let superblock = self.block.checked_mul(self.per_superblock);
-        (1..=MAX_VOCABULARY).contains(&self.vocabulary)
-            && superblock.is_some_and(|superblock| (1..=MAX_SUPERBLOCK).contains(&superblock))
+        (1..=MAX_VOCABULARY.div_ceil(CLOSING)).contains(&self.nodes)
+            && self.bytes <= MAX_WORDS * LONGEST_CODEWORD
+            && (1..=self.bytes + 1).contains(&self.block_rows)
+            && (1..=self.block_rows).contains(&self.superblock_rows)
     }
 }
 
 impl Arrays {
-    /// Arrays with as many elements as an index of so many node bytes needs; empty where V, B, b or the number of bytes is outside its
-    /// limits, so that nothing is allocated for a call that the engine turns down.
-    pub fn sized(shape: Shape, bytes: usize) -> Arrays {
-        if !shape.fits() || bytes > MAX_WORDS * LONGEST_CODEWORD {
+    /// Arrays with as many elements as an index of these sizes needs; empty where a size is outside the limits of an index, so that no more
+    /// is allocated than some index needs.
+    pub fn sized(sizes: IndexSizes) -> Arrays {
+        if !sizes.fits() {
             return Arrays::default();
         }
         Arrays {
-            lengths: vec![0; shape.vocabulary.div_ceil(CLOSING)],
-            bytes: vec![0; bytes],
-            superblocks: vec![0; 256 * (bytes / (shape.block * shape.per_superblock) + 1)],
-            blocks: vec![0; 256 * (bytes / shape.block + 1)],
+            lengths: vec![0; sizes.nodes],
+            bytes: vec![0; sizes.bytes],
+            superblocks: vec![0; ROW * sizes.superblock_rows],
+            blocks: vec![0; ROW * sizes.block_rows],
         }
     }
 
@@ -70,11 +85,18 @@ impl Arrays {
 }
 
 impl Index {
-    /// Builds the index of a text.
+    /// The sizes of the index of a text; nothing is allocated.
+    pub fn measure(shape: Shape, text: &[u32]) -> Result<IndexSizes, Refused> {
+        let measured = entries::measure(shape, text);
+        measured.answer.result()?;
+        Ok(measured.sizes)
+    }
+
+    /// Builds the index of a text: measures it, and builds it in arrays of these sizes.
     pub fn build(shape: Shape, text: &[u32]) -> Result<Index, Refused> {
-        let mut arrays =
-            if text.len() > MAX_WORDS { Arrays::default() } else { Arrays::sized(shape, stream_length(text)) };
-        entries::build(shape, text, arrays.slices_mut()).result()?;
+        let sizes = Index::measure(shape, text)?;
+        let mut arrays = Arrays::sized(sizes);
+        entries::build_sized(shape, sizes, text, arrays.slices_mut()).result()?;
         Ok(Index { shape, arrays })
     }
 
@@ -133,15 +155,4 @@ impl Index {
     pub(crate) fn one_too_many(&self) -> usize {
         self.words() + 1
     }
-}
-
-/// The number of bytes of the codewords of a text.
-fn stream_length(text: &[u32]) -> usize {
-    text.iter()
-        .map(|&rank| match rank {
-            0..=127 => 1,
-            128..=16_511 => 2,
-            _ => LONGEST_CODEWORD,
-        })
-        .sum()
 }

@@ -5,8 +5,13 @@
 //! and plain text are read and written by functions of their own. Every refusal of the engine comes
 //! back as a [`Refused`], with the number and the value of the engine's table.
 //!
-//! Nothing here decides an answer: the functions lend slices to the engine and hand on what it says. The module [`entries`] has the ten
+//! Nothing here decides an answer: the functions lend slices to the engine and hand on what it says. The module [`entries`] has the twelve
 //! entries themselves, over slices that the caller makes.
+//!
+//! # Memory
+//!
+//! [`Index::measure`] gives the sizes of a text's index before anything is allocated, and [`IndexSizes::memory`] the bytes of memory that it
+//! takes. [`Index::build`] allocates exactly these.
 //!
 //! # Stack
 //!
@@ -29,7 +34,7 @@ mod listing;
 mod refusal;
 mod streams;
 
-pub use ffi::{Listing, Question, Shape};
+pub use ffi::{IndexSizes, Listing, Question, Shape};
 pub use index::{Arrays, Index};
 pub use listing::{Page, Pages};
 pub use refusal::{Refusal, Refused};

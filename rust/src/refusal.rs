@@ -20,13 +20,14 @@ pub enum Refusal {
     WordList,
     Unlisted,
     Stream,
+    Sizes,
     /// A number that this table lacks, as a later archive may report it.
     Other(u32),
 }
 
 impl Refusal {
     /// The rows in the order of their numbers, from 1 on.
-    const ROWS: [Refusal; 15] = [
+    const ROWS: [Refusal; 16] = [
         Refusal::Vocabulary,
         Refusal::Words,
         Refusal::Blocks,
@@ -42,6 +43,7 @@ impl Refusal {
         Refusal::WordList,
         Refusal::Unlisted,
         Refusal::Stream,
+        Refusal::Sizes,
     ];
 
     /// The refusal with a number; none for 0, which says that the call was accepted.
@@ -84,6 +86,7 @@ impl Refusal {
             }
             Refusal::Unlisted => "first word of the text not in the list",
             Refusal::Stream => "a codeword of over three bytes, or a stream that ends inside one",
+            Refusal::Sizes => "the four sizes are not those of the text",
             Refusal::Other(_) => "a number that the table of this version lacks",
         }
     }

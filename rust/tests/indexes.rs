@@ -4,36 +4,13 @@ use concordance::{entries, Arrays, Shape};
 use support::random::Random;
 use support::{inputs, reference};
 
-/// Slices for an index, a little longer than needed or one shorter, filled with a mark.
-fn room(random: &mut Random, shape: Shape, text: &[u32]) -> Arrays {
-    let superblock = shape.block.saturating_mul(shape.per_superblock);
-    let sized = (1..=reference::MAX_VOCABULARY).contains(&shape.vocabulary) && (1..=65_535).contains(&superblock);
-    let needed = if sized && text.iter().all(|&rank| (rank as usize) < shape.vocabulary) {
-        let made = reference::index(shape, text);
-        [made.lengths.len(), made.bytes.len(), made.superblocks.len(), made.blocks.len()]
-    } else {
-        [8, 8, 300, 300]
-    };
-    let mut sizes = needed.map(|size| size + random.below(3));
-    if random.once_in(5) {
-        let at = random.below(4);
-        sizes[at] = needed[at].saturating_sub(1);
-    }
-    Arrays {
-        lengths: vec![0xAAAA_AAAA; sizes[0]],
-        bytes: vec![0xA5; sizes[1]],
-        superblocks: vec![0xBBBB_BBBB; sizes[2]],
-        blocks: vec![0xCCCC; sizes[3]],
-    }
-}
-
 #[test]
 fn build() {
     let mut random = Random::of("build");
     for _ in 0..6_000 {
         let shape = inputs::any_shape(&mut random);
         let text = inputs::any_text(&mut random, shape.vocabulary);
-        let mut ours = room(&mut random, shape, &text);
+        let mut ours = inputs::room(&mut random, shape, &text);
         let mut theirs = ours.clone();
         let answer = entries::build(shape, &text, ours.slices_mut());
         assert_eq!(answer, reference::build(shape, &text, &mut theirs), "{shape:?}, {text:?}");

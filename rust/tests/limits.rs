@@ -1,11 +1,14 @@
-//! Each limit of paper 01, and one past it.
+//! Each limit of the papers, and one past it.
 mod support;
-use concordance::{entries, Arrays, Index, Listing, Question, Refusal, Refused, Shape};
+use concordance::entries::{self, Measured};
+use concordance::{Arrays, Index, IndexSizes, Listing, Question, Refusal, Refused, Shape};
 use support::random::Random;
-use support::reference;
+use support::{inputs, reference};
 
 const MAX_WORDS: usize = 16_777_216;
 const MAX_VOCABULARY: usize = 2_113_664;
+/// The sizes that are returned with a refusal.
+const NO_SIZES: IndexSizes = IndexSizes { nodes: 0, bytes: 0, superblock_rows: 0, block_rows: 0 };
 
 /// The longest text: one- and two-byte words, and two three-byte words far apart.
 fn longest_text() -> Vec<u32> {
@@ -68,11 +71,52 @@ fn most_words() {
     longer.push(0x80);
     assert_eq!(entries::read_stream(&longer, &mut []), reference::refused(2));
 
+    let bytes = index.arrays().bytes.len();
+    let mut arrays = Arrays::sized(reference::sizes(index.arrays()));
+    assert_eq!(entries::build(shape, &text, arrays.slices_mut()), reference::accepted(bytes));
+    assert!(arrays == *index.arrays());
+
     text.push(0);
-    let mut arrays = Arrays::sized(shape, longer.len());
+    arrays.bytes.push(0);
+    let before = arrays.clone();
     assert_eq!(entries::build(shape, &text, arrays.slices_mut()), reference::refused(2));
-    assert!(arrays.bytes.iter().all(|&byte| byte == 0));
+    assert!(arrays == before);
     assert_eq!(entries::write_stream(MAX_VOCABULARY, &text, &mut longer), reference::refused(2));
+}
+
+/// Texts of the most words and of one word more, measured and built by their sizes: words of one byte, and words of three, which have the
+/// most bytes that an index can have.
+#[test]
+fn sizes_of_the_most_words() {
+    let (block, per_superblock) = (13_107, 5);
+    for (vocabulary, rank, sizes) in [
+        (1, 0, IndexSizes { nodes: 1, bytes: 16_777_216, superblock_rows: 257, block_rows: 1_281 }),
+        (
+            MAX_VOCABULARY,
+            MAX_VOCABULARY as u32 - 1,
+            IndexSizes { nodes: 16_513, bytes: 50_331_648, superblock_rows: 769, block_rows: 3_841 },
+        ),
+    ] {
+        let shape = Shape { vocabulary, block, per_superblock };
+        let mut text = vec![rank; MAX_WORDS];
+        let measured = Measured { answer: reference::accepted(0), sizes };
+        assert_eq!(entries::measure(shape, &text), measured, "{vocabulary}");
+        let mut arrays = Arrays::sized(sizes);
+        let answer = entries::build_sized(shape, sizes, &text, arrays.slices_mut());
+        assert_eq!(answer, reference::accepted(sizes.bytes), "{vocabulary}");
+        assert_eq!(entries::check(shape, arrays.slices()), reference::accepted(0), "{vocabulary}");
+        assert_eq!(arrays.lengths[0] as usize, MAX_WORDS, "{vocabulary}");
+
+        text.push(u32::MAX);
+        let before = arrays.clone();
+        for shape in [shape, Shape { block: 0, ..shape }] {
+            let measured = Measured { answer: reference::refused(2), sizes: NO_SIZES };
+            assert_eq!(entries::measure(shape, &text), measured, "{shape:?}");
+            let answer = entries::build_sized(shape, sizes, &text, arrays.slices_mut());
+            assert_eq!(answer, reference::refused(2), "{shape:?}");
+        }
+        assert!(arrays == before, "{vocabulary}");
+    }
 }
 
 /// A root of one byte more than the longest text has is refused, although its nodes agree.
@@ -107,10 +151,22 @@ fn vocabularies() {
             blocks: vec![0; 256],
         };
         assert_eq!(entries::build(shape, &text, arrays.slices_mut()).refusal, refusal, "{vocabulary}");
+        let measured = entries::measure(shape, &text);
+        assert_eq!(measured.answer, reference::refused(refusal), "{vocabulary}");
+        let mut sized = inputs::marked([MAX_VOCABULARY / 128 + 1, 8, 256, 256]);
+        let before = sized.clone();
+        let answer = entries::build_sized(shape, measured.sizes, &text, sized.slices_mut());
+        assert_eq!(answer.refusal, refusal, "{vocabulary}");
         if refusal == 0 {
+            let nodes = vocabulary.div_ceil(128);
+            let sizes = IndexSizes { nodes, bytes: answer.value, superblock_rows: 1, block_rows: 1 };
+            assert_eq!(measured.sizes, sizes, "{vocabulary}");
+            assert_eq!(sized.lengths[..nodes], arrays.lengths[..nodes], "{vocabulary}");
             let index = Index::build(shape, &text).expect("the text is one");
             assert_eq!(index.passage(0, text.len()).unwrap(), text);
         } else {
+            assert_eq!((measured.sizes, answer.value), (NO_SIZES, 0), "{vocabulary}");
+            assert!(sized == before, "{vocabulary}");
             assert_eq!(entries::check(shape, arrays.slices()).refusal, refusal);
             assert_eq!(entries::ask(shape, arrays.slices(), &[], Question::word_at(0)).refusal, refusal);
             assert_eq!(entries::answer_sheet(shape, arrays.slices(), &[], &[], &mut []).refusal, refusal);
@@ -130,16 +186,25 @@ fn superblocks() {
         [(65_535, 1, 0), (1, 65_535, 0), (255, 257, 0), (65_536, 1, 3), (256, 256, 3), (0, 1, 3), (1, 0, 3)]
     {
         let shape = Shape { vocabulary: 300, block, per_superblock };
+        let measured = entries::measure(shape, &text);
+        assert_eq!(measured, reference::measure(shape, &text), "{shape:?}");
+        assert_eq!(measured.answer, reference::refused(refusal), "{shape:?}");
+        let mut empty = Arrays::default();
+        let answer = entries::build_sized(shape, measured.sizes, &text, empty.slices_mut());
+        assert_eq!(answer, reference::refused(if refusal == 0 { 5 } else { refusal }), "{shape:?}");
+        let mut at_once = Arrays::sized(measured.sizes);
+        assert_eq!(entries::build(shape, &text, at_once.slices_mut()).refusal, refusal, "{shape:?}");
         let built = Index::build(shape, &text);
         assert_eq!(built.as_ref().map_or_else(|refused| refused.refusal.number(), |_| 0), refusal, "{shape:?}");
         if let Ok(index) = built {
             assert!(*index.arrays() == reference::index(shape, &text), "{shape:?}");
+            assert!(*index.arrays() == at_once, "{shape:?}");
             assert_eq!(index.passage(69_000, 1_000).unwrap(), text[69_000..]);
         }
     }
 }
 
-/// V, B and b far outside their limits: the arrays are not sized by them, and the engine's refusal comes back.
+/// V, B and b far outside their limits: no arrays are made, and the engine's refusal comes back.
 #[test]
 fn absurd_shapes() {
     let most = usize::MAX;
@@ -159,15 +224,60 @@ fn absurd_shapes() {
     ] {
         let shape = Shape { vocabulary, block, per_superblock };
         let refused = Refused { refusal, value: 0 };
-        assert_eq!(Arrays::sized(shape, 4), Arrays::default(), "{shape:?}");
-        assert_eq!(Arrays::sized(shape, most), Arrays::default(), "{shape:?}");
+        assert_eq!(Index::measure(shape, &[2, 0, 1, 0]), Err(refused), "{shape:?}");
+        for size in [0, 1, most] {
+            let sizes = IndexSizes { nodes: size, bytes: size, superblock_rows: size, block_rows: size };
+            let answer = entries::build_sized(shape, sizes, &[2, 0, 1, 0], Arrays::default().slices_mut());
+            assert_eq!(answer, reference::refused(refusal.number()), "{shape:?}, {size}");
+        }
+        let answer = entries::build(shape, &[2, 0, 1, 0], Arrays::default().slices_mut());
+        assert_eq!(answer, reference::refused(refusal.number()), "{shape:?}");
         assert_eq!(Index::build(shape, &[2, 0, 1, 0]), Err(refused), "{shape:?}");
         assert_eq!(Index::from_arrays(shape, Arrays::default()), Err(refused), "{shape:?}");
     }
     let smallest_blocks = Shape { vocabulary: 1, block: 1, per_superblock: 1 };
-    assert_eq!(Arrays::sized(smallest_blocks, most), Arrays::default());
     let refused = Refused { refusal: Refusal::Words, value: 0 };
+    assert_eq!(Index::measure(smallest_blocks, &vec![0; MAX_WORDS + 1]), Err(refused));
     assert_eq!(Index::build(smallest_blocks, &vec![0; MAX_WORDS + 1]), Err(refused));
+}
+
+/// Arrays of the most nodes and bytes, and of as many rows as bytes allow; one past each, and numbers far outside, give empty arrays.
+#[test]
+fn absurd_sizes() {
+    let most = usize::MAX;
+    let sizes = |nodes, bytes, superblock_rows, block_rows| IndexSizes { nodes, bytes, superblock_rows, block_rows };
+    for (sizes, memory) in [
+        (sizes(1, 0, 1, 1), 4 + 1_024 + 512),
+        (sizes(2, 8, 2, 3), 8 + 8 + 2_048 + 1_536),
+        (sizes(1, 8, 9, 9), 4 + 8 + 9 * 1_024 + 9 * 512),
+        (sizes(16_513, 50_331_648, 769, 769), 66_052 + 50_331_648 + 769 * 1_536),
+    ] {
+        assert_eq!(reference::sizes(&Arrays::sized(sizes)), sizes);
+        assert_eq!(sizes.memory(), memory, "{sizes:?}");
+    }
+    for sizes in [
+        NO_SIZES,
+        sizes(0, 8, 2, 3),
+        sizes(16_514, 8, 2, 3),
+        sizes(most, 8, 2, 3),
+        sizes(2, 50_331_649, 2, 3),
+        sizes(2, most, 2, 3),
+        sizes(2, 8, 0, 3),
+        sizes(2, 8, 4, 3),
+        sizes(2, 8, most, 3),
+        sizes(2, 8, 2, 0),
+        sizes(2, 8, 2, 10),
+        sizes(2, 8, 2, most),
+        sizes(2, most, most, most),
+        sizes(2, 50_331_648, 1 << 56, 1 << 56),
+        sizes(most, most, most, most),
+    ] {
+        assert_eq!(Arrays::sized(sizes), Arrays::default(), "{sizes:?}");
+    }
+    for sizes in [sizes(most, 0, 0, 0), sizes(0, most, 1, 0), sizes(0, 0, most, 0), sizes(0, 0, 0, 1 << 55)] {
+        assert_eq!(sizes.memory(), most, "{sizes:?}");
+    }
+    assert_eq!(sizes(most, most, most, most).memory(), most);
 }
 
 /// Passages and pages of more elements than any memory has: no slice is made for them.
@@ -182,16 +292,16 @@ fn absurd_lengths() {
     assert_eq!(pages, [[1, 3]]);
 }
 
-/// The numbers 1 to 15 have a row of the table each, 0 is no refusal, and any other number comes back as itself.
+/// The numbers 1 to 16 have a row of the table each, 0 is no refusal, and any other number comes back as itself.
 #[test]
 fn refusals() {
     assert_eq!(Refusal::from_number(0), None);
-    for number in 1..=15 {
+    for number in 1..=16 {
         let refusal = Refusal::from_number(number).expect("a number above 0 is a refusal");
         assert_eq!(refusal.number(), number);
         assert_ne!(refusal, Refusal::Other(number));
     }
-    for number in [16, u32::MAX] {
+    for number in [17, u32::MAX] {
         assert_eq!(Refusal::from_number(number), Some(Refusal::Other(number)));
         assert_eq!(Refusal::Other(number).number(), number);
     }

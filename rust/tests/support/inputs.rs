@@ -1,7 +1,7 @@
-//! Random inputs: texts, shapes, arrays that are damaged, questions, plain texts and word lists.
+//! Random inputs: texts, shapes, slices for an index, sizes, arrays that are damaged, questions, plain texts and word lists.
 use super::random::Random;
 use super::reference;
-use concordance::{Arrays, Question, Shape};
+use concordance::{Arrays, IndexSizes, Question, Shape};
 
 /// Vocabulary sizes at and beside the steps of the code, and between them.
 pub fn vocabulary(random: &mut Random) -> usize {
@@ -87,6 +87,70 @@ pub fn any_text(random: &mut Random, vocabulary: usize) -> Vec<u32> {
         text[place] = random.one_of(&[vocabulary as u32, u32::MAX, (vocabulary as u32).wrapping_add(1)]);
     }
     text
+}
+
+/// A text with one word changed, left out or put in, or with two words swapped; now and then the word is V or above.
+pub fn changed_text(random: &mut Random, vocabulary: usize, text: &[u32]) -> Vec<u32> {
+    let mut changed = text.to_vec();
+    let rank = match random.below(12) {
+        0 => random.one_of(&[vocabulary as u32, u32::MAX]),
+        _ => ranks(random, vocabulary)[0],
+    };
+    let place = random.below(text.len() + 1);
+    match random.below(6) {
+        _ if place == text.len() => changed.push(rank),
+        0 => changed.insert(place, rank),
+        1 => drop(changed.remove(place)),
+        2 => changed.swap(place, random.below(text.len())),
+        _ => changed[place] = rank,
+    }
+    changed
+}
+
+/// Slices for an index, a little longer than needed or one shorter, filled with a mark.
+pub fn room(random: &mut Random, shape: Shape, text: &[u32]) -> Arrays {
+    let superblock = shape.block.saturating_mul(shape.per_superblock);
+    let sized = (1..=reference::MAX_VOCABULARY).contains(&shape.vocabulary) && (1..=65_535).contains(&superblock);
+    let needed = if sized && text.iter().all(|&rank| (rank as usize) < shape.vocabulary) {
+        let made = reference::index(shape, text);
+        [made.lengths.len(), made.bytes.len(), made.superblocks.len(), made.blocks.len()]
+    } else {
+        [8, 8, 300, 300]
+    };
+    let mut sizes = needed.map(|size| size + random.below(3));
+    if random.once_in(5) {
+        let at = random.below(4);
+        sizes[at] = needed[at].saturating_sub(1);
+    }
+    marked(sizes)
+}
+
+/// Slices of these lengths, filled with a mark.
+pub fn marked([lengths, bytes, superblocks, blocks]: [usize; 4]) -> Arrays {
+    Arrays {
+        lengths: vec![0xAAAA_AAAA; lengths],
+        bytes: vec![0xA5; bytes],
+        superblocks: vec![0xBBBB_BBBB; superblocks],
+        blocks: vec![0xCCCC; blocks],
+    }
+}
+
+/// Sizes of which some are one more or less than given ones, 0, the most, or any number.
+pub fn other_sizes(random: &mut Random, sizes: IndexSizes) -> IndexSizes {
+    let mut other = |size: usize| match random.below(16) {
+        0 => size.wrapping_add(1),
+        1 => size.wrapping_sub(1),
+        2 => random.one_of(&[0, usize::MAX, 1 << 32, 1 << 63]),
+        3 => random.next() as usize,
+        4 => random.below(1_000),
+        _ => size,
+    };
+    IndexSizes {
+        nodes: other(sizes.nodes),
+        bytes: other(sizes.bytes),
+        superblock_rows: other(sizes.superblock_rows),
+        block_rows: other(sizes.block_rows),
+    }
 }
 
 /// Changes one element by one, or to any value.

@@ -1,8 +1,8 @@
-//! The engine as paper 01 describes it, written from the paper alone: plain scans over the text, and
+//! The engine as the papers describe it, written from them alone: plain scans over the text, and
 //! no search structure. Where an index is given, its text is read back from the nodes and all its
 //! arrays are made again from that text.
-use concordance::entries::{Answer, RawPage};
-use concordance::{Arrays, Listing, Question, Shape};
+use concordance::entries::{Answer, Measured, RawPage};
+use concordance::{Arrays, IndexSizes, Listing, Question, Shape};
 
 pub const MAX_VOCABULARY: usize = 2_113_664;
 pub const MAX_WORDS: usize = 16_777_216;
@@ -153,20 +153,60 @@ pub fn index(shape: Shape, text: &[u32]) -> Arrays {
     Arrays { lengths: nodes.iter().map(|node| node.len() as u32).collect(), bytes, superblocks, blocks }
 }
 
-pub fn build(shape: Shape, text: &[u32], into: &mut Arrays) -> Answer {
+/// The index of a text that is given to a call, or the refusal of the call.
+fn indexed(shape: Shape, text: &[u32]) -> Result<Arrays, Answer> {
     if !vocabulary_fits(shape.vocabulary) {
-        return refused(1);
+        return Err(refused(1));
     }
     if text.len() > MAX_WORDS {
-        return refused(2);
+        return Err(refused(2));
     }
     if !blocks_fit(shape) {
-        return refused(3);
+        return Err(refused(3));
     }
     if let Some(value) = text.iter().position(|&rank| rank as usize >= shape.vocabulary) {
-        return Answer { refusal: 4, value };
+        return Err(Answer { refusal: 4, value });
     }
-    let made = index(shape, text);
+    Ok(index(shape, text))
+}
+
+/// The sizes of some arrays; their counters are in rows of 256.
+pub fn sizes(arrays: &Arrays) -> IndexSizes {
+    IndexSizes {
+        nodes: arrays.lengths.len(),
+        bytes: arrays.bytes.len(),
+        superblock_rows: arrays.superblocks.chunks(256).count(),
+        block_rows: arrays.blocks.chunks(256).count(),
+    }
+}
+
+pub fn measure(shape: Shape, text: &[u32]) -> Measured {
+    match indexed(shape, text) {
+        Ok(made) => Measured { answer: accepted(0), sizes: sizes(&made) },
+        Err(answer) => {
+            let none = IndexSizes { nodes: 0, bytes: 0, superblock_rows: 0, block_rows: 0 };
+            Measured { answer, sizes: none }
+        }
+    }
+}
+
+pub fn build_sized(shape: Shape, given: IndexSizes, text: &[u32], into: &mut Arrays) -> Answer {
+    match indexed(shape, text) {
+        Ok(made) if sizes(&made) != given => refused(16),
+        Ok(made) => fill(made, into),
+        Err(refusal) => refusal,
+    }
+}
+
+pub fn build(shape: Shape, text: &[u32], into: &mut Arrays) -> Answer {
+    match indexed(shape, text) {
+        Ok(made) => fill(made, into),
+        Err(refusal) => refusal,
+    }
+}
+
+/// Puts the arrays of an index in front of others; 5, and nothing is put, where one is shorter.
+fn fill(made: Arrays, into: &mut Arrays) -> Answer {
     let short = into.lengths.len() < made.lengths.len()
         || into.bytes.len() < made.bytes.len()
         || into.superblocks.len() < made.superblocks.len()
