@@ -27,9 +27,9 @@
  *
  * Stack. No call allocates memory; its tables lie on the stack. The most that a call needs, as bench/stack.c measures it on x86-64:
  *   concordance_read_text: 1463 KB
- *   concordance_build, concordance_ask, concordance_answer_sheet, concordance_passage, concordance_list: 265 KB
+ *   concordance_build, concordance_build_sized, concordance_ask, concordance_answer_sheet, concordance_passage, concordance_list: 265 KB
  *   concordance_check: 3 KB
- *   concordance_write_stream, concordance_read_stream, concordance_open: less than 1 KB
+ *   concordance_write_stream, concordance_read_stream, concordance_measure, concordance_open: less than 1 KB
  */
 #ifndef CONCORDANCE_H
 #define CONCORDANCE_H
