@@ -2,39 +2,14 @@
 //
 // The entries are `build` and `build_sized`, with 128 closing values.
 ghost use mathlib.Core.Path.{_≡_};
-ghost use mathlib.Core.Bool.{true};
-ghost use Rattle.base.specs.Answers.{isAccepted};
 ghost use Rattle.dense.specs.Code.{Closing};
 ghost use Rattle.index.specs.Arrays.{arrays};
 ghost use Rattle.index.specs.Entries.{buildAnswer, buildExit};
-ghost use Rattle.measuring.specs.Sizes.{sizesOf, measureAnswer, buildSizedAnswer, buildSizedExit};
+ghost use Rattle.measuring.specs.Sizes.{buildSizedAnswer, buildSizedExit};
 use base::Answer;
 use base::refusal;
 use index::Shape;
 use measuring::IndexSizes;
-
-// Builds the index of a text that measuring accepts, and whose index has so many bytes.
-fn build_measured(
-    s: usize,
-    shape: Shape,
-    needed: usize,
-    text: &[u32],
-    lengths: &mut [u32],
-    bytes: &mut [u8],
-    superblocks: &mut [u32],
-    blocks: &mut [u16],
-) -> Answer
-    requires { ⌜ Closing s × (isAccepted (measureAnswer s shape (now text)) ≡ true) × (needed ≡ sizesOf s shape (now text) .bytes) ⌝ }
-    ensures answered { λ r. ⌜ r ≡ buildAnswer s shape (now (text .entry)) (arrays (now (lengths .entry)) (now (bytes .entry)) (now (superblocks .entry)) (now (blocks .entry))) ⌝ }
-    ensures filled { λ _. ⌜ arrays (now (lengths .exit)) (now (bytes .exit)) (now (superblocks .exit)) (now (blocks .exit))
-        ≡ buildExit s shape (now (text .entry)) (arrays (now (lengths .entry)) (now (bytes .entry)) (now (superblocks .entry)) (now (blocks .entry))) ⌝ }
-{
-    if writing::too_short(s, shape, needed, lengths, bytes, superblocks, blocks) {
-        return Answer::refused(refusal::SHORT_SLICE);
-    }
-    writing::write_index(s, shape, text, needed, lengths, bytes, superblocks, blocks);
-    Answer::accepted(needed)
-}
 
 // Builds the index of a text with s closing values: it is measured, and then built. The answer and
 // the slices are those of paper 01.
@@ -56,16 +31,12 @@ pub fn build_of(
     if measured.answer.refusal != 0 {
         return measured.answer;
     }
-    build_measured(
-        s,
-        shape,
-        measured.sizes.bytes,
-        text,
-        lengths,
-        bytes,
-        superblocks,
-        blocks,
-    )
+    let needed = measured.sizes.bytes;
+    if writing::too_short(s, shape, needed, lengths, bytes, superblocks, blocks) {
+        return Answer::refused(refusal::SHORT_SLICE);
+    }
+    writing::write_index(s, shape, text, needed, lengths, bytes, superblocks, blocks);
+    Answer::accepted(needed)
 }
 
 // Builds the index of a text with s closing values and sizes that are handed back: the answer and
@@ -93,16 +64,12 @@ pub fn build_sized_of(
     if !measuring::same_sizes(sizes, measured.sizes) {
         return Answer::refused(refusal::SIZES);
     }
-    build_measured(
-        s,
-        shape,
-        measured.sizes.bytes,
-        text,
-        lengths,
-        bytes,
-        superblocks,
-        blocks,
-    )
+    let needed = measured.sizes.bytes;
+    if writing::too_short(s, shape, needed, lengths, bytes, superblocks, blocks) {
+        return Answer::refused(refusal::SHORT_SLICE);
+    }
+    writing::write_index(s, shape, text, needed, lengths, bytes, superblocks, blocks);
+    Answer::accepted(needed)
 }
 
 // Builds the index of a text of the published code in front of the four slices, and answers the

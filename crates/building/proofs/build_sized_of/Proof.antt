@@ -1,14 +1,13 @@
 -- `building::build_sized_of` meets its contract: what measuring is refused by, 16 where the sizes are others, or what building a measured text
 -- gives. Assumes nothing.
 use mathlib.Core.Path.{_≡_, sym, ap, _∙_}
-use mathlib.Core.Bool.{true, false}
 use borrow.Author.Needs.{needs}
 use borrow.Author.Tests.{not-true, not-false}
-use Rattle.base.specs.Answers.{isAccepted}
 use Rattle.index.specs.Arrays.{Arrays, arrays}
-use Rattle.measuring.specs.declared.IndexSizes.{IndexSizes}
-use Rattle.measuring.specs.Sizes.{sizesOf, sameSizes, measureAnswer}
+use Rattle.index.specs.Entries.{buildAnswer, buildExit}
+use Rattle.measuring.specs.Sizes.{sizesOf, sameSizes, buildSizedAnswer, buildSizedExit}
 use Rattle.measuring.proofs.Sizes.{sizes-same, taken-up, turned-down, its-answer, its-sizes, sized-stopped, same-sized, other-sized}
+use Rattle.building.proofs.Built.{measured-size, size-tested, short-built, long-buildable, long-built}
 use Rattle.building.proofs.build_sized_of.Statement.{statement}
 use Rattle.building.proofs.build_sized_of.Tie as tie
 
@@ -16,17 +15,17 @@ use Rattle.building.proofs.build_sized_of.Tie as tie
 abbrev slices : tie.Start → Arrays
 slices c = arrays (c .args .lengths .now) (c .args .bytes .now) (c .args .superblocks .now) (c .args .blocks .now)
 
--- past the first test, measuring accepts the text, and the sizes are its own
-taken : (c : tie.Else1) → isAccepted (measureAnswer (c .before .before .before .before .before .before .before .before .args .s) (c .before .before .before .before .before .before .before .before .args .shape) (c .before .before .before .before .before .before .before .before .args .text .now)) ≡ true
-taken c = let a = c .before .before .before .before .before .before .before .before .args in
-    taken-up (a .s) (a .shape) (a .text .now) (its-answer (a .s) (a .shape) (a .text .now) (c .before .before .measure-of .ensures)) (c .if1 .left)
-
-own : (c : tie.Else1) → c .before .before .measure-of .result .sizes ≡ sizesOf (c .before .before .before .before .before .before .before .before .args .s) (c .before .before .before .before .before .before .before .before .args .shape) (c .before .before .before .before .before .before .before .before .args .text .now)
-own c = let a = c .before .before .before .before .before .before .before .before .args in its-sizes (a .s) (a .shape) (a .text .now) (c .before .before .measure-of .ensures) (c .if1 .left)
-
 -- what is answered of the sizes is whether they are those of the text
 compared : (c : tie.After-same-sizes) → c .same-sizes .result ≡ sameSizes (c .before .before .before .before .before .before .before .before .before .args .sizes) (sizesOf (c .before .before .before .before .before .before .before .before .before .args .s) (c .before .before .before .before .before .before .before .before .before .args .shape) (c .before .before .before .before .before .before .before .before .before .args .text .now))
-compared c = c .same-sizes .ensures ∙ ap (sameSizes (c .before .before .before .before .before .before .before .before .before .args .sizes)) (own (c .before))
+compared c = let start = c .before .before .before .before .before .before .before .before .before in
+    c .same-sizes .ensures ∙ ap (sameSizes (start .args .sizes)) (its-sizes (start .args .s) (start .args .shape) (start .args .text .now) (c .before .before .before .measure-of .ensures) (c .before .if1 .left))
+
+-- past the test of the sizes, the call is the one that builds at once
+at-once : (c : tie.Else2)
+    → (buildSizedAnswer (c .before .before .before .before .before .before .before .before .before .before .args .s) (c .before .before .before .before .before .before .before .before .before .before .args .shape) (c .before .before .before .before .before .before .before .before .before .before .args .sizes) (c .before .before .before .before .before .before .before .before .before .before .args .text .now) (slices (c .before .before .before .before .before .before .before .before .before .before)) ≡ buildAnswer (c .before .before .before .before .before .before .before .before .before .before .args .s) (c .before .before .before .before .before .before .before .before .before .before .args .shape) (c .before .before .before .before .before .before .before .before .before .before .args .text .now) (slices (c .before .before .before .before .before .before .before .before .before .before)))
+    × (buildSizedExit (c .before .before .before .before .before .before .before .before .before .before .args .s) (c .before .before .before .before .before .before .before .before .before .before .args .shape) (c .before .before .before .before .before .before .before .before .before .before .args .sizes) (c .before .before .before .before .before .before .before .before .before .before .args .text .now) (slices (c .before .before .before .before .before .before .before .before .before .before)) ≡ buildExit (c .before .before .before .before .before .before .before .before .before .before .args .s) (c .before .before .before .before .before .before .before .before .before .before .args .shape) (c .before .before .before .before .before .before .before .before .before .before .args .text .now) (slices (c .before .before .before .before .before .before .before .before .before .before)))
+at-once c = let start = c .before .before .before .before .before .before .before .before .before .before in
+    same-sized (start .args .s) (start .args .shape) (start .args .text .now) (slices start) (start .args .sizes) (sizes-same _ _ (sym (compared (c .before)) ∙ not-false _ (c .if2 .left)))
 
 measure-of-requires : tie.Need-measure-of-requires
 measure-of-requires c κs = search needs
@@ -45,11 +44,16 @@ refused-requires c κs = search needs
 
 returns-2 : tie.Need-returns-2
 returns-2 c = let start = c .before .before .before .before .before .before .before .before .before .before .before in
-    let r = other-sized (start .args .s) (start .args .shape) (start .args .text .now) (slices start) (start .args .sizes) (taken (c .before .before .before)) (sym (compared (c .before .before)) ∙ not-true _ (c .before .if2 .taken)) in
+    let accepts = taken-up (start .args .s) (start .args .shape) (start .args .text .now) (its-answer (start .args .s) (start .args .shape) (start .args .text .now) (c .before .before .before .before .before .measure-of .ensures)) (c .before .before .before .if1 .left) in
+    let r = other-sized (start .args .s) (start .args .shape) (start .args .text .now) (slices start) (start .args .sizes) accepts (sym (compared (c .before .before)) ∙ not-true _ (c .before .if2 .taken)) in
     (c .refused .ensures ∙ sym (r .0), sym (r .1))
 
-build-measured-requires : tie.Need-build-measured-requires
-build-measured-requires c κs = (c .before .before .before .before .before .before .before .before .before .before .before .before .before .before .pre, taken (c .before .before .before .before .before .before), ap (λ (x : IndexSizes). x .bytes) (own (c .before .before .before .before .before .before)))
+too-short-requires : tie.Need-too-short-requires
+too-short-requires c κs = let start = c .before .before .before .before .before .before .before .before .before .before .before .before .before .before in
+    size-tested (start .args .s) (start .args .shape) (start .args .text .now) (start .pre) (c .before .before .before .before .before .before .before .before .measure-of .ensures) (c .before .before .before .before .before .before .if1 .left)
+
+refused-requires-2 : tie.Need-refused-requires-2
+refused-requires-2 c κs = search needs
 
 same-length : tie.Need-same-length
 same-length c = search needs
@@ -64,9 +68,37 @@ same-length-4 : tie.Need-same-length-4
 same-length-4 c = search needs
 
 returns-3 : tie.Need-returns-3
-returns-3 c = let start = c .before .before .before .before .before .before .before .before .before .before .before .before .before .before .before .before .before .before .before .before .before .before .before in
-    let r = same-sized (start .args .s) (start .args .shape) (start .args .text .now) (slices start) (start .args .sizes) (sizes-same _ _ (sym (compared (c .before .before .before .before .before .before .before .before .before .before .before .before .before .before)) ∙ not-false _ (c .before .before .before .before .before .before .before .before .before .before .before .before .before .if2 .left))) in
-    (c .before .before .before .before .before .before .before .before .build-measured .ensures .0 ∙ sym (r .0), c .before .before .before .before .before .before .before .before .build-measured .ensures .1 ∙ sym (r .1))
+returns-3 c = let start = c .before .before .before .before .before .before .before .before .before .before .before .before .before .before .before .before .before in
+    let r = short-built (start .args .s) (start .args .shape) (start .args .text .now) (start .pre) (c .before .before .before .before .before .before .before .before .before .before .before .measure-of .ensures) (c .before .before .before .before .before .before .before .before .before .if1 .left) (slices start)
+    (c .refused2 .ensures) (sym (c .before .before .too-short .ensures) ∙ c .before .if3 .taken) in
+    (r .0 ∙ sym (at-once (c .before .before .before .before .before .before .before) .0), r .1 ∙ sym (at-once (c .before .before .before .before .before .before .before) .1))
+
+write-index-requires : tie.Need-write-index-requires
+write-index-requires c κs = let start = c .before .before .before .before .before .before .before .before .before .before .before .before .before .before .before .before .before .before .before .before in
+    let measured = c .before .before .before .before .before .before .before .before .before .before .before .before .before .before .measure-of .ensures in
+    let zero = c .before .before .before .before .before .before .before .before .before .before .before .before .if1 .left in
+    (long-buildable (start .args .s) (start .args .shape) (start .args .text .now) (start .pre) measured zero (slices start) (sym (c .before .before .before .before .before .too-short .ensures) ∙ c .before .before .before .before .if3 .left), measured-size (start .args .s) (start .args .shape) (start .args .text .now) (start .pre) measured zero)
+
+accepted-requires : tie.Need-accepted-requires
+accepted-requires c κs = search needs
+
+same-length-5 : tie.Need-same-length-5
+same-length-5 c = search needs
+
+same-length-6 : tie.Need-same-length-6
+same-length-6 c = search needs
+
+same-length-7 : tie.Need-same-length-7
+same-length-7 c = search needs
+
+same-length-8 : tie.Need-same-length-8
+same-length-8 c = search needs
+
+returns-4 : tie.Need-returns-4
+returns-4 c = let start = c .before .before .before .before .before .before .before .before .before .before .before .before .before .before .before .before .before .before .before .before .before .before .before .before .before .before .before .before .before .before in
+    let r = long-built (start .args .s) (start .args .shape) (start .args .text .now) (start .pre) (c .before .before .before .before .before .before .before .before .before .before .before .before .before .before .before .before .before .before .before .before .before .before .before .before .measure-of .ensures) (c .before .before .before .before .before .before .before .before .before .before .before .before .before .before .before .before .before .before .before .before .before .before .if1 .left) (slices start)
+    (c .accepted .ensures) (c .before .before .before .before .before .before .before .before .before .write-index .ensures) (sym (c .before .before .before .before .before .before .before .before .before .before .before .before .before .before .before .too-short .ensures) ∙ c .before .before .before .before .before .before .before .before .before .before .before .before .before .before .if3 .left) in
+    (r .0 ∙ sym (at-once (c .before .before .before .before .before .before .before .before .before .before .before .before .before .before .before .before .before .before .before .before) .0), r .1 ∙ sym (at-once (c .before .before .before .before .before .before .before .before .before .before .before .before .before .before .before .before .before .before .before .before) .1))
 
 pub build-sized-of-spec : {M : Type 1} → statement M
 build-sized-of-spec =
@@ -77,9 +109,17 @@ build-sized-of-spec =
     same-sizes-requires
     refused-requires
     returns-2
-    build-measured-requires
+    too-short-requires
+    refused-requires-2
     same-length
     same-length-2
     same-length-3
     same-length-4
-    returns-3)
+    returns-3
+    write-index-requires
+    accepted-requires
+    same-length-5
+    same-length-6
+    same-length-7
+    same-length-8
+    returns-4)
