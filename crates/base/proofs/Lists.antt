@@ -122,6 +122,25 @@ module _ {ℓ} {A : Type ℓ} (test : A → Bool) where
       go true e h ih = e
       go false e h ih = ih (omega arith)
 
+  -- of two lists one after the other it is that of the first list, or, where none passes there, that of the second behind it
+  pub first-where-front : (xs ys : List A) → firstWhere test xs < length xs → firstWhere test (xs ++ ys) ≡ firstWhere test xs
+  first-where-front [] ys h = absurd (omega arith)
+  first-where-front (x ∷ xs) ys h = go (test x) h (first-where-front xs ys)
+    where
+      go : (t : Bool) → cond t 0 (suc (firstWhere test xs)) < suc (length xs) → (firstWhere test xs < length xs → firstWhere test (xs ++ ys) ≡ firstWhere test xs)
+          → cond t 0 (suc (firstWhere test (xs ++ ys))) ≡ cond t 0 (suc (firstWhere test xs))
+      go true h ih = refl
+      go false h ih = ap suc (ih (omega arith))
+
+  pub first-where-past : (xs ys : List A) → length xs ≤ firstWhere test xs → firstWhere test (xs ++ ys) ≡ length xs + firstWhere test ys
+  first-where-past [] ys h = omega arith
+  first-where-past (x ∷ xs) ys h = go (test x) h (first-where-past xs ys)
+    where
+      go : (t : Bool) → suc (length xs) ≤ cond t 0 (suc (firstWhere test xs)) → (length xs ≤ firstWhere test xs → firstWhere test (xs ++ ys) ≡ length xs + firstWhere test ys)
+          → cond t 0 (suc (firstWhere test (xs ++ ys))) ≡ suc (length xs) + firstWhere test ys
+      go true h ih = absurd (omega arith)
+      go false h ih = let e = ih (omega arith) in omega arith
+
 -- ---- those that pass a test
 
 -- of two lists

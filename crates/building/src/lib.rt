@@ -64,12 +64,12 @@ pub fn build_sized_of(
     if !measuring::same_sizes(sizes, measured.sizes) {
         return Answer::refused(refusal::SIZES);
     }
-    let needed = measured.sizes.bytes;
-    if writing::too_short(s, shape, needed, lengths, bytes, superblocks, blocks) {
+    let counted = measured.sizes.bytes;
+    if writing::too_short(s, shape, counted, lengths, bytes, superblocks, blocks) {
         return Answer::refused(refusal::SHORT_SLICE);
     }
-    writing::write_index(s, shape, text, needed, lengths, bytes, superblocks, blocks);
-    Answer::accepted(needed)
+    writing::write_index(s, shape, text, counted, lengths, bytes, superblocks, blocks);
+    Answer::accepted(counted)
 }
 
 // Builds the index of a text of the published code in front of the four slices, and answers the

@@ -76,7 +76,7 @@ module _ (s : ℕ) (shape : Shape) (t : List ℕ) where
   turned-down e n = ap isAccepted (sym e) ∙ ne-eqb _ _ n
 
   -- all that it returns is the answer and the sizes
-  pub measured-as : {r : Answer} {x : IndexSizes} → r ≡ measureAnswer s shape t → x ≡ measuredOf s shape t .sizes → _≡_ {A = Measured} record { answer = r; sizes = x } (measuredOf s shape t)
+  pub measured-as : {m : Measured} → m .answer ≡ measureAnswer s shape t → m .sizes ≡ measuredOf s shape t .sizes → m ≡ measuredOf s shape t
   unfolding measuredOf
   measured-as p q = λ i. record { answer = p i; sizes = q i }
 

@@ -3,9 +3,15 @@
 //
 // The entry is `measure`, with 128 closing values.
 ghost use mathlib.Core.Path.{_≡_};
+ghost use Prim.Native.Nat.{suc, _*_, _/_, _≤_};
+ghost use lib.ListN.{length};
+ghost use Rattle.base.specs.Texts.{maxWords};
 ghost use Rattle.dense.specs.Code.{Closing};
-ghost use Rattle.index.specs.Exact.{WithinLimits, IsText};
-ghost use Rattle.measuring.specs.Sizes.{sizesOf, sameSizes, measureAnswer, measuredOf};
+ghost use Rattle.directory.specs.Counters.{maxBytes};
+ghost use Rattle.tree.specs.Nodes.{nodeCount};
+ghost use Rattle.index.specs.Exact.{WithinLimits};
+ghost use Rattle.measuring.specs.Sizes.{sizes, noSizes, sameSizes, measuredOf};
+ghost use Rattle.measuring.specs.Passes.{LimitsAnswer, PassOf};
 use base::Answer;
 use base::refusal;
 use index::Shape;
@@ -37,10 +43,42 @@ pub fn same_sizes(given: IndexSizes, own: IndexSizes) -> bool
         & (given.block_rows == own.block_rows)
 }
 
-// The refusal of a text to index, or 0.
-fn text_answer(s: usize, shape: Shape, text: &[u32]) -> Answer
+// What one pass over the ranks of a text gives: the first place whose rank is not below the
+// vocabulary's size, or the number of words, and then the number of bytes of the stream.
+struct RankPass {
+    place: usize,
+    bytes: usize,
+}
+
+// How many words are read for one test and then for the other, while they are in the cache.
+const PART: usize = 2048;
+
+// Passes over the ranks of a text once, part by part.
+fn pass_ranks(s: usize, vocabulary: usize, text: &[u32]) -> RankPass
+    requires { ⌜ Closing s × (length (now text) ≤ maxWords) ⌝ }
+    ensures { λ r. ⌜ PassOf s vocabulary (now (text .entry)) r ⌝ }
+{
+    let mut bytes = 0;
+    let mut at = 0;
+    while at < text.len() {
+        let stop = base::least(at + PART, text.len());
+        let place = base::first_outside(&text[at..stop], vocabulary);
+        if place < stop - at {
+            return RankPass {
+                place: at + place,
+                bytes,
+            };
+        }
+        bytes += dense::stream_length(s, &text[at..stop]);
+        at = stop;
+    }
+    RankPass { place: at, bytes }
+}
+
+// The refusal of V, of the number of words, or of B and b, in this order; 0 where there is none.
+fn limits_answer(s: usize, shape: Shape, text: &[u32]) -> Answer
     requires { ⌜ Closing s ⌝ }
-    ensures { λ r. ⌜ r ≡ measureAnswer s shape (now (text .entry)) ⌝ }
+    ensures { λ r. ⌜ LimitsAnswer s shape (now (text .entry)) r ⌝ }
 {
     let outside = index::limits_refusal(s, shape);
     if outside == refusal::VOCABULARY {
@@ -52,20 +90,28 @@ fn text_answer(s: usize, shape: Shape, text: &[u32]) -> Answer
     if outside != 0 {
         return Answer::refused(refusal::BLOCKS);
     }
-    let place = base::first_outside(text, shape.vocabulary);
-    if place < text.len() {
-        return Answer::refused_at(refusal::TEXT_RANK, place);
-    }
     Answer::accepted(0)
 }
 
-// The sizes of the index of a text.
-fn text_sizes(s: usize, shape: Shape, text: &[u32]) -> IndexSizes
-    requires { ⌜ Closing s × WithinLimits s shape × IsText (shape .vocabulary) (now text) ⌝ }
-    ensures { λ r. ⌜ r ≡ sizesOf s shape (now (text .entry)) ⌝ }
+// What a refused call returns: four zeros beside its answer.
+fn without_sizes(answer: Answer) -> Measured
+    ensures { λ r. ⌜ (r .answer ≡ answer) × (r .sizes ≡ noSizes) ⌝ }
+{
+    let sizes = IndexSizes {
+        nodes: 0,
+        bytes: 0,
+        superblock_rows: 0,
+        block_rows: 0,
+    };
+    Measured { answer, sizes }
+}
+
+// The sizes of an index of so many bytes.
+fn sizes_for(s: usize, shape: Shape, bytes: usize) -> IndexSizes
+    requires { ⌜ Closing s × WithinLimits s shape × (bytes ≤ maxBytes) ⌝ }
+    ensures { λ r. ⌜ r ≡ sizes (nodeCount s (shape .vocabulary)) bytes (suc (bytes / (shape .block * shape .«per_superblock»))) (suc (bytes / shape .block)) ⌝ }
 {
     let nodes = tree::node_count(s, shape.vocabulary);
-    let bytes = dense::stream_length(s, text);
     let superblock_rows = tallies::row_count(bytes, shape.block * shape.per_superblock);
     let block_rows = tallies::row_count(bytes, shape.block);
     IndexSizes {
@@ -81,20 +127,15 @@ pub fn measure_of(s: usize, shape: Shape, text: &[u32]) -> Measured
     requires { ⌜ Closing s ⌝ }
     ensures { λ r. ⌜ r ≡ measuredOf s shape (now (text .entry)) ⌝ }
 {
-    let answer = text_answer(s, shape, text);
+    let answer = limits_answer(s, shape, text);
     if answer.refusal != 0 {
-        let none = IndexSizes {
-            nodes: 0,
-            bytes: 0,
-            superblock_rows: 0,
-            block_rows: 0,
-        };
-        return Measured {
-            answer,
-            sizes: none,
-        };
+        return without_sizes(answer);
     }
-    let sizes = text_sizes(s, shape, text);
+    let pass = pass_ranks(s, shape.vocabulary, text);
+    if pass.place < text.len() {
+        return without_sizes(Answer::refused_at(refusal::TEXT_RANK, pass.place));
+    }
+    let sizes = sizes_for(s, shape, pass.bytes);
     Measured { answer, sizes }
 }
 
