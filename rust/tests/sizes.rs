@@ -54,6 +54,30 @@ fn measure() {
     assert!([0, 1, 3, 4].into_iter().all(|number| met[number] > 50), "{met:?}");
 }
 
+/// Texts that are measured in several parts of 2,048 words, whole and with a rank that is V near the ends of the parts.
+#[test]
+fn long_texts() {
+    let mut random = Random::of("long_texts");
+    let shape = Shape { vocabulary: 20_000, block: 64, per_superblock: 16 };
+    let mut refused = 0;
+    for words in [2_047, 2_048, 2_049, 4_095, 4_096, 4_097, 5_000] {
+        let text: Vec<u32> = (0..words).map(|_| random.below(shape.vocabulary) as u32).collect();
+        assert_eq!(entries::measure(shape, &text), reference::measure(shape, &text), "{words}");
+        for place in [0, 1, 2_046, 2_047, 2_048, 2_049, 4_095, 4_096, 4_999] {
+            if place < words {
+                let mut outside = text.clone();
+                outside[words - 1] = u32::MAX;
+                outside[place] = shape.vocabulary as u32;
+                let measured = entries::measure(shape, &outside);
+                assert_eq!(measured, reference::measure(shape, &outside), "{words}, {place}");
+                assert_eq!((measured.answer.refusal, measured.answer.value), (4, place), "{words}, {place}");
+                refused += 1;
+            }
+        }
+    }
+    assert_eq!(refused, 42);
+}
+
 /// With the sizes that were measured, the call builds as the one that takes no sizes: the same answer and the same slices.
 #[test]
 fn measured_sizes() {

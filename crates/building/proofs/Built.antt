@@ -17,7 +17,7 @@ use Rattle.index.proofs.Refusals.{build-stays, build-short}
 use Rattle.index.proofs.Texts.{stream-short}
 use Rattle.measuring.specs.declared.IndexSizes.{IndexSizes}
 use Rattle.measuring.specs.declared.Measured.{Measured}
-use Rattle.measuring.specs.Sizes.{measureAnswer, measuredOf}
+use Rattle.measuring.specs.Sizes.{measuredOf}
 use Rattle.measuring.proofs.Sizes.{measure-passed, measured-bytes, taken-up, its-answer, its-sizes}
 use Rattle.writing.specs.Slices.{tooShort, Buildable, fronts}
 use Rattle.writing.proofs.Builds.{build-done, short-is}

@@ -63,25 +63,20 @@ fn quote(state: State, numbers: Numbers) {
     read(state, numbers.values[0], &mut ranks[..count]);
 }
 
-// Prints four sizes.
-fn four(sizes: IndexSizes) {
-    printing::words(b"; ");
-    printing::number(sizes.nodes);
-    printing::words(b" ");
-    printing::number(sizes.bytes);
-    printing::words(b" ");
-    printing::number(sizes.superblock_rows);
-    printing::words(b" ");
-    printing::number(sizes.block_rows);
-}
-
 // Measures a text.
 fn needs(numbers: Numbers) {
     let text = given::ranks_of(numbers, 3);
     let shape = shape_of(numbers.values[0], numbers.values[1], numbers.values[2]);
     let measured = measuring::measure(shape, small_indexes::front(&text.values, text.count));
+    let sizes = measured.sizes;
     printing::answered(measured.answer);
-    four(measured.sizes);
+    printing::words(b"; ");
+    printing::four_numbers(
+        sizes.nodes,
+        sizes.bytes,
+        sizes.superblock_rows,
+        sizes.block_rows,
+    );
 }
 
 // Builds the index of a text in slices.

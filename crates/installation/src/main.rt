@@ -241,13 +241,12 @@ fn measure_text() {
     start(
         b"What 0 128 0 129 128 needs, before memory is lent: nodes, bytes, superblock rows, block rows",
     );
-    printing::number(sizes.nodes);
-    printing::words(b" ");
-    printing::number(sizes.bytes);
-    printing::words(b" ");
-    printing::number(sizes.superblock_rows);
-    printing::words(b" ");
-    printing::number(sizes.block_rows);
+    printing::four_numbers(
+        sizes.nodes,
+        sizes.bytes,
+        sizes.superblock_rows,
+        sizes.block_rows,
+    );
     end(b"not 2 8 2 2: the memory that is lent is too little or too much");
     start(b"With these sizes it is built in slices of just so much, and has as many bytes");
     value(build(&text, sizes));

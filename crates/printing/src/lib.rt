@@ -12,6 +12,17 @@ pub fn number(n: usize) {
     io::print_decimal(STDOUT_FILENO, n as u64);
 }
 
+// Writes four numbers in decimal, a blank between.
+pub fn four_numbers(a: usize, b: usize, c: usize, d: usize) {
+    number(a);
+    words(b" ");
+    number(b);
+    words(b" ");
+    number(c);
+    words(b" ");
+    number(d);
+}
+
 // Writes each byte as a blank and two hexadecimal digits.
 pub fn bytes(s: &[u8]) {
     let mut i = 0;

@@ -1,7 +1,5 @@
 -- `measuring::measure_of` meets its contract: the sizes where the text is accepted, four zeros where it is refused. Assumes nothing.
-use mathlib.Core.Path.{_≡_, refl, sym, ap, _∙_}
-use mathlib.Core.Bool.{true}
-use native.Mathlib.Omega.{arith}
+use mathlib.Core.Path.{refl, sym, ap, _∙_}
 use borrow.Author.Needs.{needs}
 use Rattle.base.specs.Answers.{accepted, refusedAt, isAccepted}
 use Rattle.base.proofs.Texts.{below-of-test, rank-outside, no-rank-outside}

@@ -1,7 +1,7 @@
 -- `measuring::pass_ranks` meets its contract. The loop's invariant: no rank passed is outside the vocabulary, and the bytes are those of the
 -- words passed. Assumes nothing.
 use Prim.Native.Nat.{ℕ, _+_, _≤_, _-_}
-use mathlib.Core.Path.{_≡_, refl, sym, ap, _∙_}
+use mathlib.Core.Path.{_≡_, sym, ap, _∙_}
 use mathlib.Core.List.{List}
 use native.Mathlib.Omega.{arith}
 use borrow.Author.Needs.{needs}

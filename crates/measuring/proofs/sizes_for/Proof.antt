@@ -1,7 +1,6 @@
 -- `measuring::sizes_for` meets its contract. Assumes nothing.
 use native.Mathlib.Nat.{mul-pos}
 use borrow.Author.Needs.{needs}
-use Rattle.measuring.specs.declared.IndexSizes.{IndexSizes}
 use Rattle.measuring.proofs.sizes_for.Statement.{statement}
 use Rattle.measuring.proofs.sizes_for.Tie as tie
 
