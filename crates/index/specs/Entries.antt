@@ -36,7 +36,8 @@ shortCase s shape t z = isShorter z (indexOf s shape t) ⇒ refused refusalShort
 unfoldable pub buildAnswer : ℕ → Shape → List ℕ → Arrays → Answer
 buildAnswer s shape t z = firstOf (textCases s shape t ++ shortCase s shape t z ∷ []) (accepted (length (indexOf s shape t .bytes)))
 
--- what a call with this answer leaves in slices z that it fills with the arrays a: each in front of its slice, the rest as it was
+-- what a call with this answer leaves in slices z that it fills with the arrays a: each array in front of its slice and the rest as it was; a
+-- refused call leaves them
 abbrev pub filledArrays : Answer → Arrays → Arrays → Arrays
 filledArrays r a z =
     arrays
