@@ -34,6 +34,11 @@ abbrev pub rangeFrom : ℕ → ℕ → List ℕ
 rangeFrom a zero = []
 rangeFrom a (suc n) = a ∷ rangeFrom (suc a) n
 
+-- the numbers from n down to 1
+abbrev pub downFrom : ℕ → List ℕ
+downFrom zero = []
+downFrom (suc n) = suc n ∷ downFrom n
+
 -- the sum of a list
 abbrev pub total : List ℕ → ℕ
 total [] = 0

@@ -65,3 +65,7 @@ refusalStream = 15
 -- four sizes that are handed back are not those of the text
 abbrev pub refusalSizes : ℕ
 refusalSizes = 16
+
+-- a plain text has more bytes, or more distinct words, than a word list is made of
+abbrev pub refusalListMaking : ℕ
+refusalListMaking = 17

@@ -48,3 +48,6 @@ pub const STREAM: u32 = 15;
 
 // Four sizes that are handed back are not those of the text.
 pub const SIZES: u32 = 16;
+
+// A plain text has more bytes, or more distinct words, than a word list is made of.
+pub const LIST_MAKING: u32 = 17;

@@ -8,9 +8,9 @@ use native.Mathlib.Omega.{arith}
 use lib.ListN.{length, drop, getD, length-drop, List·getD-map, length-map, take}
 use lib.Seq.{getD-drop, drop-drop}
 use Rattle.hashing.specs.HashTables.{spelledAt, indexIn}
-use Rattle.lexicon.specs.Reading.{TextWord, word, textWords}
+use Rattle.lexicon.specs.Reading.{TextWord, word, textWords, spellings}
 use Rattle.scanning.proofs.Scans.{words-first}
-use Rattle.scanning.specs.Scans.{wordsAt, startFrom, spellings}
+use Rattle.scanning.specs.Scans.{wordsAt, startFrom}
 use borrow.Author.Tests.{lt-ltb, le-ltb, ltb-true}
 use lib.Dec.{ltb}
 use Rattle.base.proofs.Tests.{below-or-not, or-false, or-left, or-right, false-of}

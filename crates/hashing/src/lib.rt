@@ -10,8 +10,8 @@ ghost use Rattle.hashing.specs.HashTables.{maxPart, Room, Starts, Chains
 // The most words of a part of a list that is put into a hash table.
 pub const MAX_PART: usize = 100000;
 
-// Empties the buckets of a hash table.
-fn clear_buckets(heads: &mut [u32])
+// Empties the buckets of a hash table, or another table of numbers.
+pub fn clear_buckets(heads: &mut [u32])
     ensures { λ _. ⌜ ((b : ℕ) → b < length (now (heads .entry)) → getD (now (heads .exit)) b 0 ≡ 0) ⌝ }
 {
     let mut bucket = 0;

@@ -5,7 +5,7 @@ use mathlib.Core.Bool.{Bool, true, false, not, _&&_}
 use mathlib.Core.List.{List, [], _∷_}
 use borrow.Author.Tests.{le-ltb, ltb-false, eq-eqb, not-false}
 use lib.Dec.{ltb}
-use lib.ListN.{length}
+use lib.ListN.{length, length-map}
 use Rattle.base.proofs.Answers.{first-here, first-later, none-holds, answers, filled-not, filled-front}
 use Rattle.base.proofs.Tests.{inside-range, range-inside}
 use Rattle.base.specs.Answers.{accepted, refused, refusedAt, isAccepted, Case, NoneHolds, front, _⇒_}
@@ -16,7 +16,12 @@ use Rattle.base.specs.declared.Answer.{Answer}
 use Rattle.dense.specs.Code.{vocabularyCase, maxVocabulary}
 use Rattle.lexicon.specs.Laws.{Accepts}
 use Rattle.lexicon.specs.Lexicon.{listSize, listWords, distinct, isWritten, isList}
-use Rattle.lexicon.specs.Reading.{textWords, textRanks, isListed, firstUnlisted, readTextAnswer, readTextExit}
+use Rattle.lexicon.specs.Reading.{TextWord, textWords, spellings, textRanks, isListed, firstUnlisted, readTextAnswer, readTextExit}
+
+-- a text has as many spellings as words
+pub spellings-long : (table text : List ℕ) → length (spellings table text) ≡ length (textWords table text)
+unfolding spellings
+spellings-long table text = length-map (textWords table text) (λ (w : TextWord). w .spelling)
 
 -- the tests of the call, in their order
 abbrev pub readTextCases : List ℕ → List ℕ → List ℕ → List ℕ → List Case

@@ -41,6 +41,10 @@ wordsFrom table i (x ∷ xs) =
 unfoldable pub textWords : List ℕ → List ℕ → List TextWord
 textWords table text = wordsFrom table 0 text
 
+-- the words of a text as they are spelled
+unfoldable pub spellings : List ℕ → List ℕ → List (List ℕ)
+spellings table text = map (λ w. w .spelling) (textWords table text)
+
 -- the ranks of the words of a plain text in a word list
 unfoldable pub textRanks : List ℕ → List ℕ → List ℕ → List ℕ
 textRanks table list text = map (λ w. listRank (listWords list) (w .spelling)) (textWords table text)

@@ -17,7 +17,7 @@ use Rattle.hashing.specs.HashTables.{spelledAt, indexIn}
 use Rattle.lexicon.proofs.Members.{distinct-place}
 use Rattle.lexicon.specs.Lexicon.{distinct}
 use Rattle.list_rules.specs.Repeats.{isOwn, isUnrepeated}
-use Rattle.scanning.specs.Scans.{spellings}
+use Rattle.lexicon.specs.Reading.{spellings}
 use Rattle.hashing.proofs.Parts.{WordsBefore, spelled-in, index-place, index-nowhere}
 
 module _ (table list : List ℕ) (from first : ℕ) (stands : WordsBefore table list from first) where

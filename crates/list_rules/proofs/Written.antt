@@ -15,9 +15,9 @@ use Rattle.lexicon.proofs.Tables.{table-closing}
 use Rattle.lexicon.proofs.WordLists.{list-closing, list-letter, closed-behind, spelling-kept, spelling-letter}
 use Rattle.lexicon.specs.Letters.{letterIn, lineFeed, isTable}
 use Rattle.lexicon.specs.Lexicon.{listWords, isClosed, isSpelling, isSpelled, isWritten}
-use Rattle.lexicon.specs.Reading.{TextWord, word, extended, wordsFrom, textWords}
+use Rattle.lexicon.specs.Reading.{TextWord, word, extended, wordsFrom, textWords, spellings}
 use Rattle.scanning.proofs.Scans.{words-skip, words-more, words-later, extended-apart, words-run, drop-here}
-use Rattle.scanning.specs.Scans.{run, spellings}
+use Rattle.scanning.specs.Scans.{run}
 
 -- whether the bytes left of a list go on as they must, where the word before them is begun or not
 abbrev pub writtenAfter : List ℕ → Bool → List ℕ → Bool

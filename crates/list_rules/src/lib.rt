@@ -6,7 +6,8 @@ ghost use Prim.Native.Nat.{_≤_};
 ghost use lib.ListN.{length};
 ghost use Rattle.lexicon.specs.Letters.{isTable};
 ghost use Rattle.lexicon.specs.Lexicon.{listSize, distinct, isWritten};
-ghost use Rattle.scanning.specs.Scans.{wordsAt, spellings, WordBegins};
+ghost use Rattle.lexicon.specs.Reading.{spellings};
+ghost use Rattle.scanning.specs.Scans.{wordsAt, WordBegins};
 ghost use Rattle.hashing.specs.HashTables.{maxPart, Room, HashTable};
 ghost use Rattle.list_rules.specs.Repeats.{isUnrepeated};
 

@@ -13,9 +13,8 @@ use Rattle.base.proofs.Tests.{and-left, and-right}
 use Rattle.base.specs.Lists.{All, allPass, filterBy, firstWhere}
 use Rattle.hashing.specs.HashTables.{indexIn}
 use Rattle.lexicon.specs.Lexicon.{listRank, isIn, distinct}
-use Rattle.lexicon.specs.Reading.{TextWord}
+use Rattle.lexicon.specs.Reading.{TextWord, spellings}
 use Rattle.lookup.specs.Lookups.{countIn, countListed, firstMissing}
-use Rattle.scanning.specs.Scans.{spellings}
 use Rattle.hashing.proofs.Parts.{WordsBefore, in-either, in-one}
 
 module _ (table list : List ℕ) (from first : ℕ) (stands : WordsBefore table list from first)

@@ -6,8 +6,8 @@ ghost use Prim.Native.Nat.{_≤_};
 ghost use lib.ListN.{length, take};
 ghost use Rattle.lexicon.specs.Letters.{isTable};
 ghost use Rattle.lexicon.specs.Lexicon.{distinct};
-ghost use Rattle.lexicon.specs.Reading.{textWords};
-ghost use Rattle.scanning.specs.Scans.{wordsAt, spellings, WordBegins};
+ghost use Rattle.lexicon.specs.Reading.{textWords, spellings};
+ghost use Rattle.scanning.specs.Scans.{wordsAt, WordBegins};
 ghost use Rattle.hashing.specs.HashTables.{maxPart, Room, HashTable};
 ghost use Rattle.lookup.specs.Lookups.{countIn, countListed, firstMissing};
 

@@ -16,12 +16,11 @@ use Rattle.lexicon.proofs.WordLists.{closed-size}
 use Rattle.lexicon.specs.Laws.{Accepts}
 use Rattle.lexicon.specs.Letters.{isTable}
 use Rattle.lexicon.specs.Lexicon.{listSize, listWords, isClosed, listRank, isIn, distinct, isSpelled, isWritten, isList}
-use Rattle.lexicon.specs.Reading.{TextWord, word, textWords, textRanks, isListed, firstUnlisted, readTextAnswer}
+use Rattle.lexicon.specs.Reading.{TextWord, word, textWords, textRanks, isListed, firstUnlisted, readTextAnswer, spellings}
 use Rattle.list_rules.proofs.Written.{list-words}
 use Rattle.lookup.proofs.Listed.{missing-none, missing-some, missing-below}
 use Rattle.lookup.specs.Lookups.{firstMissing}
 use Rattle.scanning.proofs.Scans.{text-words-inside}
-use Rattle.scanning.specs.Scans.{spellings}
 use Rattle.plain_text.specs.Sizes.{Sized}
 use Rattle.ranking.specs.Ranks.{ranksIn, Rankable}
 

@@ -17,8 +17,7 @@ use Rattle.hashing.proofs.HashTables.{index-most}
 use Rattle.hashing.specs.HashTables.{indexIn}
 use Rattle.lexicon.proofs.Members.{list-rank-below, list-rank-at}
 use Rattle.lexicon.specs.Lexicon.{listRank, isIn, distinct}
-use Rattle.lexicon.specs.Reading.{TextWord, word}
-use Rattle.scanning.specs.Scans.{spellings}
+use Rattle.lexicon.specs.Reading.{TextWord, word, spellings}
 use Rattle.ranking.specs.Ranks.{Ranked, ranksIn}
 use Rattle.hashing.proofs.Parts.{WordsBefore, index-place, in-either}
 

@@ -8,8 +8,7 @@ use Rattle.dense.specs.Code.{maxVocabulary}
 use Rattle.hashing.specs.HashTables.{indexIn}
 use Rattle.lexicon.specs.Letters.{isTable}
 use Rattle.lexicon.specs.Lexicon.{listRank, isIn, distinct}
-use Rattle.lexicon.specs.Reading.{TextWord, textWords}
-use Rattle.scanning.specs.Scans.{spellings}
+use Rattle.lexicon.specs.Reading.{TextWord, textWords, spellings}
 
 -- what a slice holds after the ranks of the words that are found in a part are written: each at the place of its word, the others as they were
 pub record Ranked (table list : List ℕ) (from k first : ℕ) (ws : List TextWord) (before after : List ℕ) : Type 0 where

@@ -6,8 +6,8 @@ ghost use lib.Dec.{ltb};
 ghost use lib.ListN.{length, set};
 ghost use Rattle.base.specs.Answers.{front};
 ghost use Rattle.lexicon.specs.Letters.{isTable};
-ghost use Rattle.lexicon.specs.Reading.{textWords};
-ghost use Rattle.scanning.specs.Scans.{wordsAt, spellings, WordBegins};
+ghost use Rattle.lexicon.specs.Reading.{textWords, spellings};
+ghost use Rattle.scanning.specs.Scans.{wordsAt, WordBegins};
 ghost use Rattle.hashing.specs.HashTables.{maxPart, Room, HashTable};
 ghost use Rattle.ranking.specs.Ranks.{ranksIn, Ranked, Rankable};
 

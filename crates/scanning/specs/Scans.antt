@@ -2,11 +2,11 @@
 use Prim.Native.Nat.{ℕ, suc, _+_, _*_, _%_, _≤_, _<_}
 use mathlib.Core.Path.{_≡_}
 use mathlib.Core.Bool.{cond}
-use mathlib.Core.List.{List, [], _∷_, map}
+use mathlib.Core.List.{List, [], _∷_}
 use lib.Dec.{eqb, ltb}
 use lib.ListN.{length, drop, getD}
 use Rattle.lexicon.specs.Letters.{letterIn}
-use Rattle.lexicon.specs.Reading.{TextWord, wordsFrom, textWords}
+use Rattle.lexicon.specs.Reading.{TextWord, wordsFrom}
 
 -- the letter at a position of a text; 0 at its end
 unfoldable pub letterAt : List ℕ → List ℕ → ℕ → ℕ
@@ -33,10 +33,6 @@ runAt table text at = run table (drop at text)
 -- where the first word at or after an offset begins; the end where there is none
 unfoldable pub startFrom : List ℕ → List ℕ → ℕ → ℕ
 startFrom table text at = at + gap table (drop at text)
-
--- the words of a text as they are spelled
-unfoldable pub spellings : List ℕ → List ℕ → List (List ℕ)
-spellings table text = map (λ w. w .spelling) (textWords table text)
 
 -- a word begins at an offset, or the text ends there
 pub record WordBegins (table text : List ℕ) (at : ℕ) : Type 0 where

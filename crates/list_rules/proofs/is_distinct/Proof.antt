@@ -8,10 +8,10 @@ use borrow.Author.Tests.{not-true, not-false}
 use lib.ListN.{length, drop, getD}
 use Rattle.hashing.specs.HashTables.{maxPart, Room}
 use Rattle.lexicon.proofs.Members.{distinct-of}
-use Rattle.lexicon.specs.Reading.{textWords}
+use Rattle.lexicon.specs.Reading.{textWords, spellings}
 use Rattle.list_rules.proofs.Repeats.{unrepeated-more, repeated, unrepeated-which}
 use Rattle.scanning.proofs.Scans.{begins}
-use Rattle.scanning.specs.Scans.{wordsAt, spellings, WordBegins}
+use Rattle.scanning.specs.Scans.{wordsAt, WordBegins}
 use Rattle.hashing.proofs.Parts.{words-left, words-before-first, words-before-more}
 use Rattle.list_rules.proofs.is_distinct.Statement.{statement}
 use Rattle.list_rules.proofs.is_distinct.Tie as tie

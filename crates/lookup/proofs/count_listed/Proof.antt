@@ -7,11 +7,11 @@ use borrow.Author.Needs.{needs}
 use lib.ListN.{length, take, drop, length-take}
 use lib.Seq.{take-all}
 use Rattle.hashing.specs.HashTables.{maxPart, Room}
-use Rattle.lexicon.specs.Reading.{textWords}
+use Rattle.lexicon.specs.Reading.{textWords, spellings}
 use Rattle.lookup.proofs.Listed.{count-parts, listed-most, listed-none}
 use Rattle.lookup.specs.Lookups.{countListed}
 use Rattle.scanning.proofs.Scans.{begins}
-use Rattle.scanning.specs.Scans.{wordsAt, spellings, WordBegins}
+use Rattle.scanning.specs.Scans.{wordsAt, WordBegins}
 use Rattle.hashing.proofs.Parts.{words-left, words-before-first, words-before-more}
 use Rattle.lookup.proofs.count_listed.Statement.{statement}
 use Rattle.lookup.proofs.count_listed.Tie as tie

@@ -7,11 +7,11 @@ use native.Mathlib.Omega.{arith}
 use borrow.Author.Needs.{needs}
 use lib.ListN.{length, take, length-drop, drop-of-length-le}
 use Rattle.hashing.specs.HashTables.{Room}
-use Rattle.lexicon.specs.Reading.{TextWord, textWords}
+use Rattle.lexicon.specs.Reading.{TextWord, textWords, spellings}
 use Rattle.lookup.proofs.Listed.{missing-behind, missing-here, missing-split, some-missing}
 use Rattle.lookup.specs.Lookups.{countListed, firstMissing}
 use Rattle.scanning.proofs.Scans.{begins, next, words-first, some-left}
-use Rattle.scanning.specs.Scans.{wordsAt, spellings, WordBegins}
+use Rattle.scanning.specs.Scans.{wordsAt, WordBegins}
 use Rattle.lookup.proofs.first_unlisted.Statement.{statement}
 use Rattle.lookup.proofs.first_unlisted.Tie as tie
 

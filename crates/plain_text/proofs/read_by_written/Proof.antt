@@ -11,9 +11,8 @@ use Rattle.base.specs.Answers.{accepted, refused, refusedAt, front}
 use Rattle.base.specs.Refusals.{refusalWordList, refusalUnlisted}
 use Rattle.lexicon.proofs.Calls.{read-text-refused, read-text-accepted}
 use Rattle.lexicon.specs.Lexicon.{distinct}
-use Rattle.lexicon.specs.Reading.{textWords}
+use Rattle.lexicon.specs.Reading.{textWords, spellings}
 use Rattle.lookup.specs.Lookups.{firstMissing}
-use Rattle.scanning.specs.Scans.{spellings}
 use Rattle.plain_text.proofs.Calls.{ranks-are, spelled-sized, twice-refused, unlisted-refused, all-accepted, all-rankable}
 use Rattle.plain_text.proofs.read_by_written.Statement.{statement}
 use Rattle.plain_text.proofs.read_by_written.Tie as tie

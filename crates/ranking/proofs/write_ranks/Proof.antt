@@ -5,9 +5,9 @@ use native.Mathlib.Omega.{arith}
 use borrow.Author.Needs.{needs}
 use lib.ListN.{length, drop}
 use Rattle.hashing.specs.HashTables.{maxPart, Room}
-use Rattle.lexicon.specs.Reading.{textWords}
+use Rattle.lexicon.specs.Reading.{textWords, spellings}
 use Rattle.scanning.proofs.Scans.{begins}
-use Rattle.scanning.specs.Scans.{wordsAt, spellings, WordBegins}
+use Rattle.scanning.specs.Scans.{wordsAt, WordBegins}
 use Rattle.ranking.proofs.Ranks.{RanksTo, ranks-none, ranks-more, ranks-all}
 use Rattle.hashing.proofs.Parts.{words-left, words-before-first, words-before-more}
 use Rattle.ranking.proofs.write_ranks.Statement.{statement}
