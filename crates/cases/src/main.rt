@@ -22,10 +22,15 @@
 //     page START LENGTH SIZE     a page of the listing
 //     list BYTES                 the word list; \ and two hexadecimal digits stand for any byte
 //     text SIZE BYTES            reads plain text through the list
+//     from LIST RANKS BYTES      makes a word list of plain text, in slices of so many bytes and ranks
+//     iterate LIST RANKS SIZE BYTES   makes one of so many bytes: those given, over and over again
+//     unique LIST RANKS COUNT    makes one of so many words that stand once each
 //
-// Slices that are filled held nothing but 7 before, those of lines and of ranks read from plain text
-// nothing but 9.
+// Slices that are filled held nothing but 7 before, those of lines, of word lists and of ranks read
+// from plain text nothing but 9. Of a word list that is made and of its ranks the first 20 elements
+// are printed.
 mod given;
+mod lists;
 mod shown;
 mod state;
 
@@ -54,6 +59,7 @@ fn run_line(state: State, line: &[u8]) -> State {
     let numbers = given::numbers_of(line);
     printing::words(line);
     shown::show(state, line, numbers);
+    lists::show(line, numbers);
     let next = state.changed(line, numbers);
     printing::words(b"\n");
     next

@@ -14,9 +14,11 @@ ghost use Rattle.questions.specs.Passages.{passageAnswer, passageExit};
 ghost use Rattle.listing.specs.Paging.{opened, callOf, pageOf};
 ghost use Rattle.lexicon.specs.Letters.{letters};
 ghost use Rattle.lexicon.specs.Reading.{readTextAnswer, readTextExit};
+ghost use Rattle.list_calls.specs.Making.{listMade, makeListExit, makeRanksExit};
 ghost use Rattle.sheets.specs.Sheets.{sheetAnswer, sheetExit};
 use base::Answer;
 use index::Shape;
+use list_calls::ListMade;
 use listing::Listing;
 use listing::Page;
 use measuring::IndexSizes;
@@ -242,4 +244,15 @@ pub extern "C" fn concordance_read_text(list: &[u8], text: &[u8], ranks: &mut [u
     ensures { λ r. ⌜ (r ≡ readTextAnswer letters (now (list .entry)) (now (text .entry)) (now (ranks .entry))) × (now (ranks .exit) ≡ readTextExit letters (now (list .entry)) (now (text .entry)) (now (ranks .entry))) ⌝ }
 {
     plain_text::read_text(list, text, ranks)
+}
+
+// Makes a word list of a plain text, whose words are folded by the letter table: the list of its
+// distinct words, most frequent first and equal ones by first appearance, to the front of one slice,
+// and the rank of each word of the text to the front of the other. It gives how many elements of
+// each it has written. Refusals 2, 17 and 5, in this order, leave both slices as they were.
+#[no_mangle]
+pub extern "C" fn concordance_make_list(text: &[u8], list: &mut [u8], ranks: &mut [u32]) -> ListMade
+    ensures { λ r. ⌜ (r ≡ listMade letters (now (text .entry)) (now (list .entry)) (now (ranks .entry))) × (now (list .exit) ≡ makeListExit letters (now (text .entry)) (now (list .entry)) (now (ranks .entry))) × (now (ranks .exit) ≡ makeRanksExit letters (now (text .entry)) (now (list .entry)) (now (ranks .entry))) ⌝ }
+{
+    list_making::make_list(text, list, ranks)
 }

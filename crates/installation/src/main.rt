@@ -256,11 +256,28 @@ fn measure_text() {
     end(b"not 16: it is not noticed that the text was changed");
 }
 
+// Makes the word list of a plain text that has none, and the ranks of its words.
+fn make_list() {
+    let mut list = [9u8; 6];
+    let mut ranks = [9u32; 5];
+    let made = list_making::make_list(b"c, B b; C a", &mut list, &mut ranks);
+    printing::words(b"The word list that is made of the plain text c, B b; C a, byte by byte:");
+    printing::bytes(&list);
+    end(b"not c, b and a, each closed by 0A: the words are not in the order of their frequency");
+    printing::words(b"The words of that text as ranks in its list:");
+    printing::ranks(&ranks);
+    printing::words(b", ");
+    printing::number(made.words);
+    printing::words(b" words");
+    end(b"not 0 1 1 0 2 and 5: the ranks are not those of the list");
+}
+
 fn main() {
     printing::words(
         b"Each line says what is tried and what came of it, and in brackets what another ",
     );
     printing::words(b"result would mean. A word is written as its rank.\n");
+    make_list();
     measure_text();
     check_arrays();
     read_words();
