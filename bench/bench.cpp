@@ -199,6 +199,30 @@ static void reading(const std::vector<uint32_t> &text) {
     std::printf("reading plain text of %zu words, %u listed: %.1f MB/s\n", text.size(), vocabulary, plain.size() / read.one / 1e6);
 }
 
+// Making the word list of a plain text of the most bytes, beside a hash map with a stable sort and beside reading the same text through its list.
+static void making(uint32_t words) {
+    const std::string plain = sentences(CONCORDANCE_MAX_LIST_TEXT, words, 20261116);
+    const auto bytes = [](const std::string &of) { return (const uint8_t *)of.data(); };
+    std::string list(plain.size() + 1, 0), their_list;
+    std::vector<uint32_t> ranks(plain.size() / 2), theirs, read(ranks.size());
+    concordance_list_made made;
+    const auto make = [&] {
+        made = concordance_make_list(bytes(plain), plain.size(), (uint8_t *)list.data(), list.size(), ranks.data(), ranks.size());
+        must(made.answer.refusal == 0, "make_list");
+    };
+    const Both mapped = in_turn(10 * runs, make, [&] { must(twin::make_list(plain, their_list, theirs), "make_list"); });
+    const std::string front = list.substr(0, made.bytes);
+    must(front == their_list && made.words == theirs.size() && std::equal(theirs.begin(), theirs.end(), ranks.begin()), "make_list");
+    const Both again = in_turn(10 * runs, make, [&] {
+        const auto answer = concordance_read_text(bytes(front), front.size(), bytes(plain), plain.size(), read.data(), read.size());
+        must(answer.refusal == 0 && answer.value == made.words, "make_list");
+    });
+    must(std::equal(theirs.begin(), theirs.end(), read.begin()), "make_list");
+    const std::string what = "make_list, " + std::to_string(std::count(front.begin(), front.end(), '\n')) + " distinct words";
+    table.add(made.words, what, mapped.one, "unordered_map and stable_sort", mapped.other);
+    table.add(made.words, what, again.one, "read_text by the list", again.other);
+}
+
 // A phrase in a wavelet tree, along the occurrences of its rarest word.
 static uint32_t phrase_along(const sdsl::wt_int<> &tree, const uint32_t *phrase, size_t m) {
     size_t rare = 0, often = SIZE_MAX;
@@ -425,5 +449,6 @@ int main(int count, char **arguments) {
     for (size_t n : {1000000, 4000000, 16000000}) {
         measure(n, given ? std::atoi(arguments[1]) : 1024, given ? std::atoi(arguments[2]) : 8, !given);
     }
+    for (uint32_t words : {6000, 50}) making(words);
     plot("times.svg");
 }

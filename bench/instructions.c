@@ -6,15 +6,16 @@
  *   valgrind --tool=callgrind --callgrind-out-file=/dev/null target/instructions CALL
  *
  * CALL is 0 for the check, 1, 3, 4 or 5 for a sheet of 400 questions of that kind, 6 for 20 pages of 20 lines, 7 for measuring, 8 for building, 9
- * for building by the sizes that are measured. Each run builds the index once before its call. The text has 400,000 words, a few of them very
- * frequent, so that phrases and neighbours have many hits. A sum of the answers is printed: it is the same with every archive.
+ * for building by the sizes that are measured, 10 for making the word list of a plain text of 65,535 bytes. Each run builds the index once before its
+ * call. The text has 400,000 words, a few of them very frequent, so that phrases and neighbours have many hits. A sum of the answers is printed: it is
+ * the same with every archive.
  */
 #include "concordance.h"
 
 #include <stdio.h>
 #include <stdlib.h>
 
-enum { WORDS = 400000, VOCABULARY = 50000, BLOCK = 1024, PER = 8, QUESTIONS = 400, PAGES = 20, LINES = 20 };
+enum { WORDS = 400000, VOCABULARY = 50000, BLOCK = 1024, PER = 8, QUESTIONS = 400, PAGES = 20, LINES = 20, LISTED_WORDS = CONCORDANCE_MAX_LIST_TEXT / 5 };
 
 static uint64_t state = 88172645463325252ull;
 
@@ -83,6 +84,15 @@ int main(int count, char **arguments) {
     } else if (call == 9) {
         const concordance_sizes sizes = {nodes, size, size / (BLOCK * PER) + 1, size / BLOCK + 1};
         sum += concordance_build_sized(shape, sizes, text, WORDS, INDEX).value;
+    } else if (call == 10) {
+        static char plain[CONCORDANCE_MAX_LIST_TEXT];
+        static uint8_t list[CONCORDANCE_MAX_LIST_TEXT + 1];
+        static uint32_t ranks[LISTED_WORDS];
+        for (int i = 0; i < LISTED_WORDS; i++) sprintf(plain + 5 * i, "%04x ", (unsigned)text[i] % 4096);
+        const concordance_list_made made =
+            concordance_make_list((const uint8_t *)plain, 5 * LISTED_WORDS, list, sizeof list, ranks, LISTED_WORDS);
+        sum += made.answer.refusal + made.bytes + made.words;
+        for (size_t i = 0; i < made.words; i++) sum = sum * 31 + ranks[i];
     } else {
         sum += concordance_answer_sheet(shape, INDEX, words, 2 * QUESTIONS, questions, QUESTIONS, answers, 2 * QUESTIONS).refusal;
         for (int i = 0; i < 2 * QUESTIONS; i++) sum = sum * 31 + answers[i];

@@ -18,6 +18,22 @@ inline std::vector<uint32_t> zipf_text(size_t n, uint32_t vocabulary, uint64_t s
     return text;
 }
 
+// A plain text of so many bytes, in sentences of words drawn by Zipf's law. A word has syllables of a consonant and a vowel, one if it is frequent and two
+// if not, and one of four endings.
+inline std::string sentences(size_t bytes, uint32_t vocabulary, uint64_t seed) {
+    const char *endings[] = {"", "n", "rt", "ing"};
+    std::string text;
+    int place = 0;
+    for (uint32_t rank : zipf_text(bytes / 2, vocabulary, seed)) {
+        std::string word;
+        for (uint32_t rest = rank / 4 + 1; rest > 0; rest /= 90) word += {"bcdfghjklmnprstvwz"[rest % 90 / 5], "aeiou"[rest % 5]};
+        if (place % 10 == 0) word[0] -= 'a' - 'A';
+        text += word + endings[rank % 4] + (++place % 10 == 0 ? ". " : " ");
+    }
+    text.resize(bytes);
+    return text;
+}
+
 // The spelling of a rank: letters only, and shorter for more frequent words.
 inline std::string spelling(uint32_t rank) {
     std::string word;

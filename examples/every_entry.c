@@ -1,4 +1,4 @@
-/* Calls each of the twelve entries on a small text, the sample of the scope paper, and shows a refusal of each entry that has one to teach. */
+/* Calls each of the thirteen entries on a small text, the sample of the scope paper, and shows a refusal of each entry that has one to teach. */
 #include "concordance.h"
 
 #include <stdio.h>
@@ -144,6 +144,22 @@ static void plain_text(void) {
     show("read_text, an unclosed list", concordance_read_text((const uint8_t *)list, strlen(list) - 1, (const uint8_t *)plain, strlen(plain), ranks, 3));
 }
 
+/* Entry 13: the word list of a plain text that comes without one, and the text's ranks by it. */
+static void word_lists(void) {
+    const char *plain = "Tock, tick! TICK.";
+    uint8_t list[10];
+    uint32_t ranks[3];
+    const concordance_list_made made = concordance_make_list((const uint8_t *)plain, strlen(plain), list, 10, ranks, 3);
+    show("make_list", made.answer);
+    printf(" bytes %zu, words %zu\n", made.bytes, made.words);
+    show_bytes(list, made.bytes); /* tick, then tock, which stands once only */
+    show_numbers(ranks, made.words);
+    show("make_list, room for 9 bytes", concordance_make_list((const uint8_t *)plain, strlen(plain), list, 9, ranks, 3).answer);
+
+    static const uint8_t longer[CONCORDANCE_MAX_LIST_TEXT + 1];
+    show("make_list, 65,537 bytes", concordance_make_list(longer, sizeof longer, list, 10, ranks, 3).answer);
+}
+
 int main(void) {
     streams();
     index_in_two_calls();
@@ -152,5 +168,6 @@ int main(void) {
     passages();
     pages();
     plain_text();
+    word_lists();
     return 0;
 }

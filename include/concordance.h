@@ -22,11 +22,12 @@
  *
  * Answers. An accepted call returns the refusal 0 and its value. A call that is turned down returns the number of its refusal, with the
  * value that the table below gives, and writes nothing: all lent memory stays as it was. The refusals of each call are listed at it in the
- * order in which they are tried, and where several apply, the first of them is returned (16 is tried before 5). No call keeps a pointer, and
- * equal arguments have equal answers.
+ * order in which they are tried, and where several apply, the first of them is returned (16 and 17 are tried before 5). No call keeps a pointer,
+ * and equal arguments have equal answers.
  *
  * Stack. No call allocates memory; its tables lie on the stack. The most that a call needs, as bench/stack.c measures it on x86-64:
  *   concordance_read_text: 1463 KB
+ *   concordance_make_list: 918 KB
  *   concordance_build, concordance_build_sized, concordance_ask, concordance_answer_sheet, concordance_passage, concordance_list: 265 KB
  *   concordance_check: 3 KB
  *   concordance_write_stream, concordance_read_stream, concordance_measure, concordance_open: less than 1 KB
@@ -42,7 +43,7 @@
  * The version of this header. It changes when an entry is added, or a struct or the meaning of an entry changes, so that a program can tell
  * what it was written for.
  */
-#define CONCORDANCE_VERSION 2
+#define CONCORDANCE_VERSION 3
 
 #ifdef __cplusplus
 extern "C" {
@@ -82,7 +83,9 @@ enum {
     /* a codeword of over three bytes, or a stream that ends inside one */
     CONCORDANCE_REFUSED_STREAM = 15,
     /* the four sizes that are handed back are not those of the text */
-    CONCORDANCE_REFUSED_SIZES = 16
+    CONCORDANCE_REFUSED_SIZES = 16,
+    /* a plain text to make a list of has more than 65,536 bytes, or more than 4,096 distinct words */
+    CONCORDANCE_REFUSED_LIST_MAKING = 17
 };
 
 /* The limits. */
@@ -91,7 +94,9 @@ enum {
     CONCORDANCE_MAX_WORDS = 16777216,
     CONCORDANCE_MAX_SUPERBLOCK = 65535,
     CONCORDANCE_MAX_PHRASE = 16,
-    CONCORDANCE_MAX_OFFSET = 16
+    CONCORDANCE_MAX_OFFSET = 16,
+    CONCORDANCE_MAX_LIST_TEXT = 65536,
+    CONCORDANCE_MAX_LIST_WORDS = 4096
 };
 
 /* The answer of a call: 0 and its value, or a refusal's number and what is returned with it. */
@@ -163,6 +168,13 @@ typedef struct {
     bool more;
     concordance_listing listing;
 } concordance_page;
+
+/* What making a word list returns: its answer, the number of bytes of the list and the number of words of the text; 0 and 0 where it is refused. */
+typedef struct {
+    concordance_answer answer;
+    size_t bytes;
+    size_t words;
+} concordance_list_made;
 
 /*
  * Writes a text as a stream.
@@ -306,6 +318,22 @@ concordance_page concordance_list(concordance_listing listing, concordance_shape
  * value of the others is 0. A refused call changes nothing.
  */
 concordance_answer concordance_read_text(const uint8_t *list, size_t list_len, const uint8_t *text, size_t text_len, uint32_t *ranks, size_t ranks_len);
+
+/*
+ * Makes the word list of a plain text that comes without one, and reads the text through it. The list has each word of the text once, as
+ * concordance_read_text finds and folds it, the most frequent first and equally frequent ones by their first appearance. By no other order of
+ * the same words is the text's stream shorter.
+ * Returns: in `answer` the value 0; in `bytes` the number of bytes of the list; in `words` n, the number of words of the text. V is the number
+ * of 0A bytes of the list. The word of rank i stands in the text as often as i stands among the ranks, and these frequencies add up to n.
+ * Writes: the list, each word closed by 0A, in front of `list`; the rank of each word of the text, in order, in front of `ranks`, as
+ * concordance_read_text gives it by this list. The elements past them stay. text_len + 1 bytes and (text_len + 1) / 2 ranks are enough, and so
+ * are always 65,537 bytes and 32,768 ranks. A text without words is accepted: its list is empty, it has no ranks, and concordance_read_text
+ * refuses every text with this list by 1.
+ * Refusals: 2 if the text has more than 16,777,216 words; 17 if it has more than 65,536 bytes, or more than 4,096 distinct words; 5 if `list` is
+ * shorter than the list, or `ranks` has fewer elements than the text has words. The value of each is 0, and so are `bytes` and `words`. A refused
+ * call changes nothing.
+ */
+concordance_list_made concordance_make_list(const uint8_t *text, size_t text_len, uint8_t *list, size_t list_len, uint32_t *ranks, size_t ranks_len);
 
 #ifdef __cplusplus
 }

@@ -1,9 +1,9 @@
-//! The twelve entries of the archive, over slices and as they are: no slice is made, and the answer is the one that the engine gives.
+//! The thirteen entries of the archive, over slices and as they are: no slice is made, and the answer is the one that the engine gives.
 //!
 //! Each call is safe, since an entry asks nothing of its arguments but what a slice always has: it is not null, aligned, initialized and as
 //! long as it says, and one that is written is lent to nobody else.
 use crate::ffi;
-pub use crate::ffi::{Answer, IndexSizes, Listing, Measured, Question, RawPage, Shape};
+pub use crate::ffi::{Answer, IndexSizes, ListMade, Listing, Measured, Question, RawPage, Shape};
 
 /// The four arrays of an index, lent to be read.
 #[derive(Clone, Copy, Debug)]
@@ -123,6 +123,20 @@ pub fn read_text(list: &[u8], text: &[u8], ranks: &mut [u32]) -> Answer {
             list.len(),
             text.as_ptr(),
             text.len(),
+            ranks.as_mut_ptr(),
+            ranks.len(),
+        )
+    }
+}
+
+/// Makes the word list of a plain text, and writes the ranks of its words.
+pub fn make_list(text: &[u8], list: &mut [u8], ranks: &mut [u32]) -> ListMade {
+    unsafe {
+        ffi::concordance_make_list(
+            text.as_ptr(),
+            text.len(),
+            list.as_mut_ptr(),
+            list.len(),
             ranks.as_mut_ptr(),
             ranks.len(),
         )

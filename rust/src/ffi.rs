@@ -67,6 +67,16 @@ pub struct RawPage {
     pub listing: Listing,
 }
 
+/// What making a word list returns: its answer, the number of bytes of the list and the number of words of the text; 0 and 0 where it is
+/// refused.
+#[repr(C)]
+#[derive(Clone, Copy, Debug, PartialEq, Eq)]
+pub struct ListMade {
+    pub answer: Answer,
+    pub bytes: usize,
+    pub words: usize,
+}
+
 impl Question {
     /// The offset runs from -MAX_OFFSET to MAX_OFFSET.
     pub const MAX_OFFSET: i32 = 16;
@@ -232,4 +242,13 @@ extern "C" {
         ranks: *mut u32,
         ranks_len: usize,
     ) -> Answer;
+
+    pub fn concordance_make_list(
+        text: *const u8,
+        text_len: usize,
+        list: *mut u8,
+        list_len: usize,
+        ranks: *mut u32,
+        ranks_len: usize,
+    ) -> ListMade;
 }

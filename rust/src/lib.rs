@@ -5,7 +5,7 @@
 //! and plain text are read and written by functions of their own. Every refusal of the engine comes
 //! back as a [`Refused`], with the number and the value of the engine's table.
 //!
-//! Nothing here decides an answer: the functions lend slices to the engine and hand on what it says. The module [`entries`] has the twelve
+//! Nothing here decides an answer: the functions lend slices to the engine and hand on what it says. The module [`entries`] has the thirteen
 //! entries themselves, over slices that the caller makes.
 //!
 //! # Memory
@@ -13,11 +13,16 @@
 //! [`Index::measure`] gives the sizes of a text's index before anything is allocated, and [`IndexSizes::memory`] the bytes of memory that it
 //! takes. [`Index::build`] allocates exactly these.
 //!
+//! # A text without a word list
+//!
+//! [`make_list`] makes the word list of a plain text of up to 65,536 bytes, the most frequent word first, and gives the text's ranks by it. With
+//! the list, [`read_text`] turns a phrase that somebody types into the ranks to ask about.
+//!
 //! # Stack
 //!
 //! The engine allocates nothing; its tables lie on the stack of the calling thread. As `bench/stack.c` measures it, [`read_text`] needs 1.5 MB,
-//! building, questions, sheets, passages and pages 265 KB, the rest less than 4 KB. A thread with Rust's default stack of 2 MB can make every
-//! call.
+//! [`make_list`] 0.9 MB, building, questions, sheets, passages and pages 265 KB, the rest less than 4 KB. A thread with Rust's default
+//! stack of 2 MB can make every call.
 //!
 //! # What the check says
 //!
@@ -33,12 +38,14 @@ mod index;
 mod listing;
 mod refusal;
 mod streams;
+mod word_list;
 
 pub use ffi::{IndexSizes, Listing, Question, Shape};
 pub use index::{Arrays, Index};
 pub use listing::{Page, Pages};
 pub use refusal::{Refusal, Refused};
 pub use streams::{read_stream, read_text, write_stream};
+pub use word_list::{make_list, WordList};
 
 /// The largest vocabulary.
 pub const MAX_VOCABULARY: usize = 2_113_664;
@@ -48,3 +55,7 @@ pub const MAX_WORDS: usize = 16_777_216;
 pub const MAX_SUPERBLOCK: usize = 65_535;
 /// The most bytes of a codeword.
 pub const LONGEST_CODEWORD: usize = 3;
+/// The most bytes of a plain text that a word list is made of.
+pub const MAX_LIST_TEXT: usize = 65_536;
+/// The most words of a list that is made.
+pub const MAX_LIST_WORDS: usize = 4_096;

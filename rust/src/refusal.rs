@@ -21,13 +21,14 @@ pub enum Refusal {
     Unlisted,
     Stream,
     Sizes,
+    ListMaking,
     /// A number that this table lacks, as a later archive may report it.
     Other(u32),
 }
 
 impl Refusal {
     /// The rows in the order of their numbers, from 1 on.
-    const ROWS: [Refusal; 16] = [
+    const ROWS: [Refusal; 17] = [
         Refusal::Vocabulary,
         Refusal::Words,
         Refusal::Blocks,
@@ -44,6 +45,7 @@ impl Refusal {
         Refusal::Unlisted,
         Refusal::Stream,
         Refusal::Sizes,
+        Refusal::ListMaking,
     ];
 
     /// The refusal with a number; none for 0, which says that the call was accepted.
@@ -87,6 +89,9 @@ impl Refusal {
             Refusal::Unlisted => "first word of the text not in the list",
             Refusal::Stream => "a codeword of over three bytes, or a stream that ends inside one",
             Refusal::Sizes => "the four sizes are not those of the text",
+            Refusal::ListMaking => {
+                "a plain text to make a list of has more than 65,536 bytes, or more than 4,096 distinct words"
+            }
             Refusal::Other(_) => "a number that the table of this version lacks",
         }
     }

@@ -309,6 +309,29 @@ pub fn plain_text(random: &mut Random) -> Vec<u8> {
         .collect()
 }
 
+/// A plain text of so many bytes: words of the given number of different spellings, the first of them the most frequent, in capitals and not, with
+/// separators between them.
+pub fn long_text(random: &mut Random, bytes: usize, spellings: usize) -> Vec<u8> {
+    let words: Vec<Vec<u8>> = (0..spellings).map(|number| format!("{number:x}").into_bytes()).collect();
+    let mut text = Vec::with_capacity(bytes + 16);
+    while text.len() < bytes {
+        let below = random.between(1, spellings);
+        let word = &words[random.below(below)];
+        text.extend(if random.once_in(3) { word.to_ascii_uppercase() } else { word.clone() });
+        text.push(random.one_of(&SEPARATORS));
+    }
+    text.truncate(bytes);
+    text
+}
+
+/// A plain text over few letters, so that words come again and many stand equally often.
+pub fn repetitive_text(random: &mut Random) -> Vec<u8> {
+    let length = random.between(0, 120);
+    let symbols = [&b"aA "[..], b"abAB ", b"aB\n, ", b"ab\xC4\xE4\xD7 ", b"0aZ\xFF\xF7\0"];
+    let symbols = random.one_of(&symbols);
+    (0..length).map(|_| random.one_of(symbols)).collect()
+}
+
 /// A list of the words of a text and some others, which may break a rule or lack a word.
 pub fn word_list(random: &mut Random, text: &[u8]) -> Vec<u8> {
     let mut words: Vec<Vec<u8>> = Vec::new();

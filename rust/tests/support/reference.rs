@@ -1,8 +1,10 @@
 //! The engine as the papers describe it, written from them alone: plain scans over the text, and
 //! no search structure. Where an index is given, its text is read back from the nodes and all its
 //! arrays are made again from that text.
-use concordance::entries::{Answer, Measured, RawPage};
+use concordance::entries::{Answer, ListMade, Measured, RawPage};
 use concordance::{Arrays, IndexSizes, Listing, Question, Shape};
+use std::cmp::Reverse;
+use std::collections::{HashMap, HashSet};
 
 pub const MAX_VOCABULARY: usize = 2_113_664;
 pub const MAX_WORDS: usize = 16_777_216;
@@ -456,8 +458,13 @@ fn list_words(list: &[u8]) -> Option<Vec<&[u8]>> {
     let mut words: Vec<&[u8]> = list.split(|&byte| byte == 0x0A).collect();
     words.pop();
     let kept = |word: &&[u8]| !word.is_empty() && word.iter().all(|&byte| byte != 0 && letter(byte) == byte);
-    let distinct: std::collections::HashSet<&[u8]> = words.iter().copied().collect();
+    let distinct: HashSet<&[u8]> = words.iter().copied().collect();
     (words.iter().all(kept) && distinct.len() == words.len()).then_some(words)
+}
+
+/// The rank of each word of a list.
+fn ranks_of<'a>(listed: &[&'a [u8]]) -> HashMap<&'a [u8], u32> {
+    listed.iter().enumerate().map(|(rank, &word)| (word, rank as u32)).collect()
 }
 
 pub fn read_text(list: &[u8], text: &[u8], into: &mut [u32]) -> Answer {
@@ -475,8 +482,7 @@ pub fn read_text(list: &[u8], text: &[u8], into: &mut [u32]) -> Answer {
     let Some(listed) = list_words(list) else {
         return refused(13);
     };
-    let ranks: std::collections::HashMap<&[u8], u32> =
-        listed.iter().enumerate().map(|(rank, &word)| (word, rank as u32)).collect();
+    let ranks = ranks_of(&listed);
     if let Some((offset, _)) = words.iter().find(|(_, word)| !ranks.contains_key(&word[..])) {
         return Answer { refusal: 14, value: *offset };
     }
@@ -484,4 +490,46 @@ pub fn read_text(list: &[u8], text: &[u8], into: &mut [u32]) -> Answer {
         *line = ranks[&word[..]];
     }
     accepted(words.len())
+}
+
+/// What is made of a plain text: its word list and the ranks of its words, or its refusal.
+pub type Made = Result<(Vec<u8>, Vec<u32>), Answer>;
+
+/// Counts the words of a plain text in a map, and sorts them in the order in which they appear, stably, by how often they stand.
+pub fn made(text: &[u8]) -> Made {
+    let words = words_of(text);
+    if words.len() > MAX_WORDS {
+        return Err(refused(2));
+    }
+    let mut often: HashMap<&[u8], usize> = HashMap::new();
+    let mut distinct: Vec<&[u8]> = Vec::new();
+    for (_, word) in &words {
+        let count = often.entry(word).or_default();
+        if *count == 0 {
+            distinct.push(word);
+        }
+        *count += 1;
+    }
+    if text.len() > 65_536 || distinct.len() > 4_096 {
+        return Err(refused(17));
+    }
+    distinct.sort_by_key(|word| Reverse(often[word]));
+    let ranks = ranks_of(&distinct);
+    let list = distinct.iter().flat_map(|word| [word, &b"\n"[..]].concat()).collect();
+    Ok((list, words.iter().map(|(_, word)| ranks[&word[..]]).collect()))
+}
+
+/// Puts what was made of a text in front of two slices; 5, and nothing is put, where one is shorter.
+pub fn fill_list(made: &Made, into: &mut [u8], ranks_into: &mut [u32]) -> ListMade {
+    match made {
+        Err(answer) => ListMade { answer: *answer, bytes: 0, words: 0 },
+        Ok((list, ranks)) if into.len() < list.len() || ranks_into.len() < ranks.len() => {
+            ListMade { answer: refused(5), bytes: 0, words: 0 }
+        }
+        Ok((list, ranks)) => {
+            into[..list.len()].copy_from_slice(list);
+            ranks_into[..ranks.len()].copy_from_slice(ranks);
+            ListMade { answer: accepted(0), bytes: list.len(), words: ranks.len() }
+        }
+    }
 }
