@@ -11,7 +11,8 @@ use index::Shape;
 use questions::Question;
 use tree::Place;
 
-// Asks a question of an index with s closing values: the answer is that of paper 01.
+// Asks a question of an index with s closing values: the answer is that of the papers. No table is
+// made for the phrase of no words.
 pub fn ask_of(
     s: usize,
     shape: Shape,
@@ -28,6 +29,10 @@ pub fn ask_of(
     let checked = checking::check_of(s, shape, lengths, bytes, superblocks, blocks);
     if checked.refusal != 0 {
         return checked;
+    }
+    if question.kind == 5 && question.length == 0 {
+        let n = words::text_length(lengths);
+        return answering::answer_no_words(words, question.start, n);
     }
     let mut starts = [0u32; starts::MAX_STARTS];
     starts::node_starts(lengths, &mut starts);

@@ -119,6 +119,11 @@ module _ (test : ℕ → Bool) where
   filter-range-none a zero h = refl
   filter-range-none a (suc n) h = rw (h a (omega arith) (omega arith)) (filter-range-none (suc a) n (λ i l u. h i (omega arith) (omega arith)))
 
+  -- all, where the test holds of each
+  pub filter-range-all : (a n : ℕ) → ((i : ℕ) → a ≤ i → i < a + n → test i ≡ true) → filterBy test (rangeFrom a n) ≡ rangeFrom a n
+  filter-range-all a zero h = refl
+  filter-range-all a (suc n) h = rw (h a (omega arith) (omega arith)) (ap (λ (is : List ℕ). a ∷ is) (filter-range-all (suc a) n (λ i l u. h i (omega arith) (omega arith))))
+
   -- a range with a number that passes: those before it, it, and those after it
   pub filter-range-meets : (a i n : ℕ) → a ≤ i → i < a + n → test i ≡ true
       → filterBy test (rangeFrom a n) ≡ filterBy test (rangeFrom a (i - a)) ++ i ∷ filterBy test (rangeFrom (suc i) (a + n - suc i))

@@ -30,7 +30,7 @@ refusalIndex = 6
 abbrev pub refusalKind : ℕ
 refusalKind = 7
 
--- a phrase's length is outside 1 to 16, or its part is outside the lent words
+-- a phrase's length is above 16, or its part is outside the lent words
 abbrev pub refusalPhrase : ℕ
 refusalPhrase = 8
 

@@ -10,8 +10,8 @@ use lib.ListN.{length, drop, length-take, length-drop}
 use Rattle.base.specs.declared.Answer.{Answer}
 use Rattle.base.specs.Lists.{Below}
 use Rattle.base.specs.Answers.{accepted, isAccepted, NoneHolds, filled}
-use Rattle.base.specs.Texts.{maxPhrase, outside, ranksBelow}
-use Rattle.base.proofs.Tests.{or-false, inside-range}
+use Rattle.base.specs.Texts.{maxPhrase, ranksBelow}
+use Rattle.base.proofs.Tests.{or-false}
 use Rattle.base.proofs.Answers.{none-holds, answers, none-append}
 use Rattle.base.proofs.Texts.{test-of-below}
 use Rattle.dense.specs.Code.{vocabularyCase}
@@ -44,17 +44,17 @@ own-page call state h =
     }
 
 -- no test of a phrase of the vocabulary holds that lies in the lent words
-pub phrase-tests : (vocab : ℕ) (words : List ℕ) (start len : ℕ) (phrase : List ℕ) → IsPart words start len phrase → 1 ≤ length phrase → length phrase ≤ maxPhrase → Below vocab phrase
+pub phrase-tests : (vocab : ℕ) (words : List ℕ) (start len : ℕ) (phrase : List ℕ) → IsPart words start len phrase → length phrase ≤ maxPhrase → Below vocab phrase
     → NoneHolds (phraseCases vocab words start len)
 unfolding phraseCases rankAskedCase phraseIn
-phrase-tests vocab words start len phrase part some most below =
+phrase-tests vocab words start len phrase part most below =
     let n : length phrase ≡ len = ap length (sym (part .isPhrase)) ∙ length-take len (drop start words) ∙ omega (arith, length-drop start words, part .inside) in (
-      or-false (outside 1 maxPhrase len) (ltb (length words) (start + len)) (inside-range 1 maxPhrase len (omega arith) (omega arith)) (le-ltb (length words) (start + len) (part .inside)),
+      or-false (ltb maxPhrase len) (ltb (length words) (start + len)) (le-ltb maxPhrase len (omega arith)) (le-ltb (length words) (start + len) (part .inside)),
       (ap not (ap (ranksBelow vocab) (part .isPhrase) ∙ test-of-below vocab phrase below), tt),
     )
 
 -- a call that brings the phrase and arrays that pass is accepted over a state whose next place is not above n, with a page of one line or more
-module _ (s : ℕ) (shape : Shape) (a : Arrays) (phrase : List ℕ) (passed : checkAnswer s shape a ≡ accepted 0) (some : 1 ≤ length phrase) (most : length phrase ≤ maxPhrase) (below : Below (shape .vocabulary) phrase) where
+module _ (s : ℕ) (shape : Shape) (a : Arrays) (phrase : List ℕ) (passed : checkAnswer s shape a ≡ accepted 0) (most : length phrase ≤ maxPhrase) (below : Below (shape .vocabulary) phrase) where
   pub call-accepted : (call : Call) (state : Listing) → Brings s shape a phrase call → 1 ≤ length (call .lines) → state .next ≤ length (textIn s a) → isAccepted (pageAnswer call state) ≡ true
   unfolding pageAnswer pageCases requestCases
   call-accepted call state b lines inside =
@@ -62,5 +62,5 @@ module _ (s : ℕ) (shape : Shape) (a : Arrays) (phrase : List ℕ) (passed : ch
       (none-append (indexCases (call .closing) (call .shape) (call .arrays)) _
       (rw (b .sameClosing, b .sameShape, b .sameArrays) (index-tests s shape a passed))
       (none-append (phraseCases (call .shape .vocabulary) (call .words) (call .start) (call .len)) _
-      (rw (b .sameShape) (phrase-tests (shape .vocabulary) (call .words) (call .start) (call .len) phrase (b .samePhrase) some most below))
+      (rw (b .sameShape) (phrase-tests (shape .vocabulary) (call .words) (call .start) (call .len) phrase (b .samePhrase) most below))
       (le-ltb (length (callText call)) (state .next) (rw (b .sameClosing, b .sameArrays) inside), (ne-eqb (length (call .lines)) 0 (λ q. omega arith), tt)))))

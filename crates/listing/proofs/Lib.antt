@@ -1,3 +1,4 @@
 pub mod Calls
 pub mod Whole
 pub mod Paged
+pub mod NoWords

@@ -21,18 +21,24 @@ use Rattle.index.proofs.Exact.{index-exact}
 use Rattle.phrases.specs.Phrases.{stands, places}
 use Rattle.phrases.proofs.Exact.{places-are-exact}
 use Rattle.pages.specs.Runs.{CompleteRun, IsPage, IsListing}
+use Rattle.pages.proofs.Pages.{page-within}
 use Rattle.pages.proofs.Complete.{every-run-complete}
 use Rattle.questions.specs.declared.Question.{Question}
 use Rattle.questions.specs.Answering.{askAnswer, questionAnswer, phraseAnswer, phraseIn, phraseCases}
 use Rattle.questions.specs.Passages.{passageAnswer, passageExit}
 use Rattle.questions.proofs.Read.{ask-passed, passage-accepted, passage-filled}
 use Rattle.listing.specs.declared.Listing.{Listing}
-use Rattle.listing.specs.Paging.{opened, Call, pageOf}
-use Rattle.listing.specs.Completeness.{outcomeOf, foundBy, IsPart, Brings, isPage, resultAfter, Complete, ListingComplete}
+use Rattle.listing.specs.Paging.{opened, Call, callText, callPhrase, pageOf}
+use Rattle.listing.specs.Completeness.{outcomeOf, foundBy, IsPart, Brings, isPage, resultAfter, Complete, ListingComplete, NextWithin}
 use Rattle.listing.proofs.Calls.{own-page, phrase-tests, call-accepted}
+use Rattle.listing.proofs.Paged.{accepted-call}
+
+-- a state, of its two fields
+abbrev stateOf : ℕ → Bool → Listing
+stateOf next finished = record { next = next; finished = finished }
 
 module _ (s : ℕ) (shape : Shape) (a : Arrays) (phrase : List ℕ) (within : Closing s) (passed : checkAnswer s shape a ≡ accepted 0)
-    (some : 1 ≤ length phrase) (most : length phrase ≤ maxPhrase) (below : Below (shape .vocabulary) phrase) where
+    (most : length phrase ≤ maxPhrase) (below : Below (shape .vocabulary) phrase) where
   abbrev text : List ℕ
   text = textIn s a
 
@@ -46,7 +52,7 @@ module _ (s : ℕ) (shape : Shape) (a : Arrays) (phrase : List ℕ) (within : Cl
         (ap₂ stands (ap₂ textIn (b .sameClosing) (b .sameArrays)) (b .samePhrase .isPhrase)) (ap length (ap₂ textIn (b .sameClosing) (b .sameArrays)))
         (own-page call state h);
     keeps = λ call state k b h. tt;
-    accepts = λ call state k b l h. call-accepted s shape a phrase passed some most below call state b l h;
+    accepts = λ call state k b l h. call-accepted s shape a phrase passed most below call state b l h;
   }
 
   -- the count is accepted, and is the number of all places
@@ -55,7 +61,7 @@ module _ (s : ℕ) (shape : Shape) (a : Arrays) (phrase : List ℕ) (within : Cl
   count-of-all words q k part =
       ask-passed s shape a words q passed
       ∙ rw k (answers (phraseCases (shape .vocabulary) words (q .start) (q .length)) (accepted (length (places text (phraseIn words (q .start) (q .length)))))
-      (phrase-tests (shape .vocabulary) words (q .start) (q .length) phrase part some most below)
+      (phrase-tests (shape .vocabulary) words (q .start) (q .length) phrase part most below)
       ∙ ap (λ (p : List ℕ). accepted (length (places text p))) (part .isPhrase))
 
   -- where the phrase stands, the passage of its length is accepted, and is the phrase
@@ -74,7 +80,7 @@ module _ (s : ℕ) (shape : Shape) (a : Arrays) (phrase : List ℕ) (within : Cl
       )
 
   module _ (calls : List Call) (bring : (before : List Call) (call : Call) (after : List Call) → before ++ call ∷ after ≡ calls → isPage (resultAfter before call) ≡ true → Brings s shape a phrase call) where
-    run : CompleteRun outcomeOf (λ (st : Listing). st .next) (λ (c : Call). c .lines) (Brings s shape a phrase) (stands text phrase) (length text) opened calls
+    run : CompleteRun outcomeOf (λ (st : Listing). st .next) (λ (st : Listing). st .finished) (λ (c : Call). c .lines) (Brings s shape a phrase) (stands text phrase) (length text) opened calls
     run =
         every-run-complete Call Listing outcomeOf (λ (st : Listing). st .next) (λ (st : Listing). st .finished) (λ (c : Call). c .lines) (Brings s shape a phrase) (λ (st : Listing). Unit {0})
         (stands text phrase) (length text) is-listing opened refl refl tt calls bring
@@ -91,6 +97,7 @@ module _ (s : ℕ) (shape : Shape) (a : Arrays) (phrase : List ℕ) (within : Cl
       thePlaces = places-are-exact text phrase .standing;
       eachOnce = places-are-exact text phrase .once;
       placesAscend = places-are-exact text phrase .inOrder;
+      noWordsEverywhere = places-are-exact text phrase .none;
       firstPlaces = run .firstHits;
       ascending = run .ascending;
       nothingElse = found-stands;
@@ -101,10 +108,21 @@ module _ (s : ℕ) (shape : Shape) (a : Arrays) (phrase : List ℕ) (within : Cl
       lastReported = λ before call after e h q m none.
           run .lastWritten before call after e q (rw h m) (λ p l i. false-of (stands text phrase p) (λ st. omega (arith, l, none p st))) .noMore;
       noneReported = λ before call after e h none. run .noHits before call after e h (λ p l. none p) .noMore;
+      endState = λ before call after e h m.
+          let f = run .endState before call after e record { accepted = h; noMore = m } in
+          ap₂ stateOf (f .1) (f .0);
+      nextWithin = run .nextWithin;
       pageAccepted = run .pageAccepted;
       countOfAll = count-of-all;
       passageIsPhrase = λ i l z n. passage-is-phrase (getD (foundBy calls) i 0) (found-stands i l) z n;
     }
 
 pub listing-complete : ListingComplete
-listing-complete s shape a phrase within passed some most below calls bring = whole s shape a phrase within passed some most below calls bring
+listing-complete s shape a phrase within passed most below calls bring = whole s shape a phrase within passed most below calls bring
+
+-- an accepted page is one over the places of its text, of which none is above n
+pub next-within : NextWithin
+unfolding pageOf
+next-within call state h =
+    let p = own-page call state h in
+    rw (p .nextIs) (page-within (stands (callText call) (callPhrase call)) (length (callText call)) (length (call .lines)) (p .someLine) (state .next) (accepted-call call state h .inside) (state .finished))

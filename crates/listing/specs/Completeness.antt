@@ -1,11 +1,11 @@
 -- Statement of demand 3: one theorem about a whole list of page calls.
-use Prim.Native.Nat.{ℕ, _+_, _≤_, _<_}
+use Prim.Native.Nat.{ℕ, suc, _+_, _≤_, _<_}
 use mathlib.Core.Path.{_≡_}
 use mathlib.Core.Logic.{_↔_}
 use mathlib.Core.Bool.{Bool, true, false, cond}
 use mathlib.Core.List.{List, [], _∷_, _++_, List·Memᴰ}
 use lib.ListN.{length, take, getD}
-use Rattle.base.specs.Lists.{Below, countOf}
+use Rattle.base.specs.Lists.{Below, rangeFrom, countOf}
 use Rattle.base.specs.Answers.{accepted, isAccepted}
 use Rattle.base.specs.Texts.{maxPhrase}
 use Rattle.dense.specs.Code.{Closing}
@@ -19,7 +19,7 @@ use Rattle.questions.specs.declared.Question.{Question}
 use Rattle.questions.specs.Answering.{askAnswer, phraseIn}
 use Rattle.questions.specs.Passages.{passageAnswer, passageExit}
 use Rattle.listing.specs.declared.Listing.{Listing}
-use Rattle.listing.specs.Paging.{opened, Call, PageResult, pageOf}
+use Rattle.listing.specs.Paging.{opened, Call, callText, PageResult, pageOf}
 
 -- what a page call comes to, as the runs of `pages` take it: it is one of the listing's pages if it is accepted
 abbrev pub outcomeOf : Call → Listing → Outcome Listing
@@ -78,6 +78,8 @@ pub record Complete (s : ℕ) (shape : Shape) (a : Arrays) (phrase t : List ℕ)
   -- `places` lists them ascending, all of them and each once
   pub eachOnce : (q : ℕ) → countOf q (places t phrase) ≡ cond (stands t phrase q) 1 0
   pub placesAscend : (i j : ℕ) → i < j → j < length (places t phrase) → getD (places t phrase) i 0 < getD (places t phrase) j 0
+  -- a phrase of no words stands at every place from 0 to n
+  pub noWordsEverywhere : length phrase ≡ 0 → places t phrase ≡ rangeFrom 0 (suc (length t))
   -- found are the first of them, as many as the accepted pages had lines, or every place if there are fewer
   pub firstPlaces : foundBy calls ≡ take (linesOf calls) (places t phrase)
   -- found is ascending, so that nothing is found twice
@@ -108,6 +110,15 @@ pub record Complete (s : ℕ) (shape : Shape) (a : Arrays) (phrase t : List ℕ)
   pub noneReported :
       (before : List Call) (call : Call) (after : List Call) → before ++ call ∷ after ≡ calls →
       isPage (resultAfter before call) ≡ true → ((p : ℕ) → stands t phrase p ≡ false) → resultAfter before call .page .more ≡ false
+  -- an accepted page that reports the end hands back a finished state with next n
+  pub endState :
+      (before : List Call) (call : Call) (after : List Call) → before ++ call ∷ after ≡ calls →
+      isPage (resultAfter before call) ≡ true → resultAfter before call .page .more ≡ false →
+      resultAfter before call .page .listing ≡ record { next = length t; finished = true }
+  -- no call hands back a next place above n
+  pub nextWithin :
+      (before : List Call) (call : Call) (after : List Call) → before ++ call ∷ after ≡ calls →
+      resultAfter before call .page .listing .next ≤ length t
   -- a call of the list that brings the same and a page of one line or more is accepted
   pub pageAccepted :
       (before : List Call) (call : Call) (after : List Call) → before ++ call ∷ after ≡ calls →
@@ -122,15 +133,19 @@ pub record Complete (s : ℕ) (shape : Shape) (a : Arrays) (phrase t : List ℕ)
       (passageAnswer s shape a (getD (foundBy calls) i 0) z ≡ accepted (length phrase))
       × (passageExit s shape a (getD (foundBy calls) i 0) z ≡ phrase)
 
--- Statement of demand 3, at every number of closing values: for arrays that pass the check, one phrase of 1 to 16 words of the
--- vocabulary, and every list of page calls, the empty one too, of which the accepted ones bring that phrase and those arrays, the
--- refused ones anything.
+-- Statement of demand 3, at every number of closing values: for arrays that pass the check, one phrase of up to 16 words of the
+-- vocabulary, or of no words, and every list of page calls, the empty one too, of which the accepted ones bring that phrase and those
+-- arrays, the refused ones anything.
 abbrev pub ListingComplete : Type 0
 ListingComplete =
     (s : ℕ) (shape : Shape) (a : Arrays) (phrase : List ℕ) → Closing s →
     checkAnswer s shape a ≡ accepted 0 →
-    1 ≤ length phrase → length phrase ≤ maxPhrase → Below (shape .vocabulary) phrase →
+    length phrase ≤ maxPhrase → Below (shape .vocabulary) phrase →
     (calls : List Call) →
     ((before : List Call) (call : Call) (after : List Call) → before ++ call ∷ after ≡ calls →
     isPage (resultAfter before call) ≡ true → Brings s shape a phrase call) →
     Complete s shape a phrase (textIn s a) calls
+
+-- Statement: an accepted page hands back a next place that is not above n, whatever state it was handed and whatever it brings.
+abbrev pub NextWithin : Type 0
+NextWithin = (call : Call) (state : Listing) → isPage (pageOf call state) ≡ true → pageOf call state .page .listing .next ≤ length (callText call)

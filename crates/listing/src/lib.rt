@@ -125,8 +125,6 @@ fn written_page(
     requires { ⌜ Closing s × (isAccepted (pageAnswer (callOf s shape (arrays (now lengths) (now bytes) (now superblocks) (now blocks)) (now words) start count (now lines)) state) ≡ true) × (state .finished ≡ false) ⌝ }
     ensures { λ r. ⌜ (r ≡ pageOf (callOf s shape (arrays (now (lengths .entry)) (now (bytes .entry)) (now (superblocks .entry)) (now (blocks .entry))) (now (words .entry)) start count (now (lines .entry))) state .page) × (now (lines .exit) ≡ pageOf (callOf s shape (arrays (now (lengths .entry)) (now (bytes .entry)) (now (superblocks .entry)) (now (blocks .entry))) (now (words .entry)) start count (now (lines .entry))) state .lines) ⌝ }
 {
-    let mut starts = [0u32; starts::MAX_STARTS];
-    starts::node_starts(lengths, &mut starts);
     let end = start + count;
     let next = Place(state.next);
     let written = paging::write_page(
@@ -136,7 +134,6 @@ fn written_page(
         bytes,
         superblocks,
         blocks,
-        &starts,
         &words[start..end],
         next,
         lines,

@@ -2,7 +2,7 @@
 use Prim.Native.Nat.{ℕ, suc, _+_, _-_, _≤_, _<_}
 use mathlib.Core.Path.{_≡_, refl, sym, ap, ap₂, subst, _∙_}
 use mathlib.Core.Logic.{_↔_}
-use mathlib.Core.Bool.{Bool, true, false, cond, false≢true}
+use mathlib.Core.Bool.{Bool, true, false, cond, not, false≢true}
 use mathlib.Core.List.{List, [], _∷_, _++_, append-nil, append-assoc, flatten, List·Memᴰ, List·Memᴰ·not-nil, Memᴰ·append-left, Memᴰ·append-right}
 use native.Mathlib.Omega.{arith}
 use borrow.Author.Tests.{ltb-false, le-ltb}
@@ -17,7 +17,7 @@ use Rattle.pages.specs.Pages.{HitPage, pending, pageOver}
 use Rattle.pages.specs.Runs.{Outcome, hitsOn, linesOn, ReportsEnd, outcomes, stateAfter, outcomeAfter, found, linesHad, AcceptedBring, CompleteRun, IsPage, IsListing, EveryRunComplete}
 use Rattle.base.proofs.Members.{mem-take}
 use Rattle.pages.proofs.Hits.{hits-from-start, is-hit, hit-is, last-among}
-use Rattle.pages.proofs.Pages.{page-found, page-more, page-rest, page-within}
+use Rattle.pages.proofs.Pages.{page-found, page-more, page-closes, page-ended, page-rest, page-within}
 use Rattle.pages.proofs.Runs.{found-cons, found-append, lines-append, lines-snoc}
 
 -- a list that is its own front has no more elements
@@ -45,6 +45,8 @@ module _ {State : Type 0} (next : State → ℕ) (finished : State → Bool) (P 
     rest : left (o .state) ≡ drop (linesOn o) (left state)
     more : o .accepted ≡ true → o .more ≡ ltb (linesOn o) (length (left state))
     within : next (o .state) ≤ end
+    closes : o .accepted ≡ true → finished (o .state) ≡ not (o .more)
+    ended : (finished state ≡ true → next state ≡ end) → finished (o .state) ≡ true → next (o .state) ≡ end
 
   -- a refused call takes none of them
   refused-takes : (state : State) (o : Outcome State) → next state ≤ end → o .accepted ≡ false → o .state ≡ state → Takes state o
@@ -53,6 +55,8 @@ module _ {State : Type 0} (next : State → ℕ) (finished : State → Bool) (P 
     rest = rw (a, s);
     more = λ b. absurd (false≢true (sym a ∙ b));
     within = rw s h;
+    closes = λ b. absurd (false≢true (sym a ∙ b));
+    ended = rw s (λ k. k);
   }
 
   -- a page takes as many as it has lines
@@ -83,15 +87,18 @@ module _ {State : Type 0} (next : State → ℕ) (finished : State → Bool) (P 
           ∙ ap (λ (k : ℕ). drop k (left state)) (sym lines-is);
       more = λ b. p .moreIs ∙ page-more P end (length slice) (next state) (finished state) ∙ ap (λ (k : ℕ). ltb k (length (left state))) (sym lines-is);
       within = rw (p .nextIs) (page-within P end (length slice) (p .someLine) (next state) h (finished state));
+      closes = λ b. p .finishedIs ∙ page-closes P end (length slice) (next state) (finished state) ∙ ap not (sym (p .moreIs));
+      ended = λ k f. p .nextIs ∙ page-ended P end (length slice) (next state) (finished state) k (sym (p .finishedIs) ∙ f);
     }
 
 -- ---- a list of calls
 
 module _ {Call State : Type 0} (answer : Call → State → Outcome State) (next : State → ℕ) (finished : State → Bool) (lines : Call → List ℕ)
     (Brings : Call → Type 0) (Kept : State → Type 0) (P : ℕ → Bool) (end : ℕ) (L : IsListing answer next finished lines Brings Kept P end) where
-  -- a state that a run can be in: its next place is not past the end, and what is to be kept is
+  -- a state that a run can be in: its next place is not past the end, and at it once it is finished, and what is to be kept is
   record Sound (state : State) : Type 0 where
     inside : next state ≤ end
+    ended : finished state ≡ true → next state ≡ end
     kept : Kept state
 
   -- what a call takes
@@ -104,7 +111,7 @@ module _ {Call State : Type 0} (answer : Call → State → Outcome State) (next
 
   -- the state that a call returns is sound
   sound-after : (call : Call) (state : State) → Sound state → (answer call state .accepted ≡ true → Brings call) → Sound (answer call state .state)
-  sound-after call state s b = record { inside = takes call state s b .within; kept = by (answer call state .accepted) refl }
+  sound-after call state s b = record { inside = takes call state s b .within; ended = takes call state s b .ended (s .ended); kept = by (answer call state .accepted) refl }
     where
       by : (t : Bool) → answer call state .accepted ≡ t → Kept (answer call state .state)
       by true a = L .keeps call state (s .kept) (b a) a
@@ -143,7 +150,7 @@ module _ {Call State : Type 0} (answer : Call → State → Outcome State) (next
 
     -- and is sound
     sound : Sound opening
-    sound = record { inside = omega arith; kept = kept }
+    sound = record { inside = omega arith; ended = λ f. absurd (false≢true (sym unfinished ∙ f)); kept = kept }
 
     -- some of the calls, from the first on
     front-ran : (before rest : List Call) → before ++ rest ≡ calls → Ran opening before
@@ -225,7 +232,7 @@ module _ {Call State : Type 0} (answer : Call → State → Outcome State) (next
           record { accepted = a; noMore = enough a .1 (last-among P end (linesHad answer opening (before ++ call ∷ [])) q among none) }
 
     -- every clause
-    complete-run : CompleteRun answer next lines Brings P end opening calls
+    complete-run : CompleteRun answer next finished lines Brings P end opening calls
     complete-run = record {
       firstHits = first-hits;
       ascending = ascends;
@@ -238,6 +245,10 @@ module _ {Call State : Type 0} (answer : Call → State → Outcome State) (next
           let z : length (allHits P end) ≡ 0 = ap length (filter-range-none P 0 (suc end) (λ q l u. none q (omega arith))) in
           record { accepted = a; noMore = enough before call after e a .1 (omega arith) };
       within = λ before call after e. here before call after e .sound .inside;
+      nextWithin = λ before call after e. this before call after e .within;
+      endState = λ before call after e r.
+          let f : finished (outcomeAfter answer opening before call .state) ≡ true = this before call after e .closes (r .accepted) ∙ ap not (r .noMore) in
+          (f, this before call after e .ended (here before call after e .sound .ended) f);
       pageAccepted = λ before call after e b l.
           let s : Sound (stateAfter answer opening before) = here before call after e .sound in
           L .accepts call (stateAfter answer opening before) (s .kept) b l (s .inside);

@@ -4,13 +4,13 @@ use mathlib.Core.Path.{_≡_, refl, sym, ap, _∙_}
 use mathlib.Core.Bool.{Bool, true, false, cond, not}
 use mathlib.Core.List.{List, [], _∷_, _++_}
 use native.Mathlib.Omega.{arith}
-use borrow.Author.Tests.{ltb-true, ltb-false, lt-ltb, le-ltb}
+use borrow.Author.Tests.{ltb-true, ltb-false, lt-ltb, le-ltb, not-true}
 use lib.Dec.{ltb}
 use lib.ListN.{length, take, drop, length-append, length-drop, drop-of-length-le}
 use lib.Seq.{take-all, take-nil, drop-nil, take-at}
 use Rattle.base.proofs.Ranges.{length-filter-range}
 use Rattle.pages.specs.Hits.{hitsFrom, lastOr}
-use Rattle.pages.specs.Pages.{HitPage, pending, pageOver}
+use Rattle.pages.specs.Pages.{HitPage, pending, moreAfter, pageOver}
 use Rattle.pages.proofs.Hits.{hits-rest}
 
 -- a page that is full, with another hit after it
@@ -31,6 +31,18 @@ module _ (P : ℕ → Bool) (end lines next : ℕ) (finished : Bool) where
   pub page-more : pageOver P end lines next finished .more ≡ ltb lines (length (pending P end next finished))
   unfolding pageOver
   page-more = refl
+
+  -- the state that it hands back is finished exactly if it does not
+  pub page-closes : pageOver P end lines next finished .finished ≡ not (pageOver P end lines next finished .more)
+  unfolding pageOver
+  page-closes = refl
+
+-- and it has its next place at the end then, if a finished one had
+pub page-ended : (P : ℕ → Bool) (end lines next : ℕ) (finished : Bool) → (finished ≡ true → next ≡ end) → pageOver P end lines next finished .finished ≡ true
+    → pageOver P end lines next finished .next ≡ end
+unfolding pageOver
+page-ended P end lines next true k f = rw (not-true (moreAfter P end lines next true) f) (k refl)
+page-ended P end lines next false k f = rw (not-true (moreAfter P end lines next false) f)
 
 module _ (P : ℕ → Bool) (end lines : ℕ) (some : 1 ≤ lines) (next : ℕ) (inside : next ≤ end) where
   -- past the hits of a full page are the rest of those that were pending
@@ -82,3 +94,9 @@ page-last P end lines next ws e l = rw (e, le-ltb lines (length ws) l, take-all 
 pub page-over-finished : (P : ℕ → Bool) (end lines next : ℕ) → pageOver P end lines next true ≡ endPage next []
 unfolding pageOver
 page-over-finished P end lines next = rw (le-ltb lines 0 (omega arith), take-nil lines)
+
+-- the page over a state that is not finished depends on nothing but the hits that are pending, and the end
+pub page-by-hits : (P Q : ℕ → Bool) (end lines next from : ℕ) → hitsFrom P end next ≡ hitsFrom Q end from
+    → pageOver P end lines next false ≡ pageOver Q end lines from false
+unfolding pageOver
+page-by-hits P Q end lines next from e = rw e

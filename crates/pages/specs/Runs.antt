@@ -64,9 +64,9 @@ module _ {Call State : Type 0} (answer : Call → State → Outcome State) where
       outcomeAfter state before call .accepted ≡ true → Brings call
 
 -- a list of calls from an opening state is complete for the hits of P among the places 0 to the end; `next` is the next place of a
--- state, `lines` what the slice of a call holds, and `Brings` what every accepted call brings
-pub record CompleteRun {Call State : Type 0} (answer : Call → State → Outcome State) (next : State → ℕ) (lines : Call → List ℕ) (Brings : Call → Type 0)
-    (P : ℕ → Bool) (end : ℕ) (opening : State) (calls : List Call)
+-- state, `finished` whether it is finished, `lines` what the slice of a call holds, and `Brings` what every accepted call brings
+pub record CompleteRun {Call State : Type 0} (answer : Call → State → Outcome State) (next : State → ℕ) (finished : State → Bool) (lines : Call → List ℕ)
+    (Brings : Call → Type 0) (P : ℕ → Bool) (end : ℕ) (opening : State) (calls : List Call)
     : Type 0 where
   -- found are the first hits, as many as the accepted pages have lines, or all hits if there are not so many
   pub firstHits : found answer opening calls ≡ take (linesHad answer opening calls) (allHits P end)
@@ -98,9 +98,16 @@ pub record CompleteRun {Call State : Type 0} (answer : Call → State → Outcom
       (before : List Call) (call : Call) (after : List Call) → before ++ call ∷ after ≡ calls →
       outcomeAfter answer opening before call .accepted ≡ true → ((p : ℕ) → p ≤ end → P p ≡ false) →
       ReportsEnd (outcomeAfter answer opening before call)
-  -- no call is handed a next place past the end
+  -- no call is handed a next place past the end, and none hands one back
   pub within :
       (before : List Call) (call : Call) (after : List Call) → before ++ call ∷ after ≡ calls → next (stateAfter answer opening before) ≤ end
+  pub nextWithin :
+      (before : List Call) (call : Call) (after : List Call) → before ++ call ∷ after ≡ calls → next (outcomeAfter answer opening before call .state) ≤ end
+  -- a page that reports the end hands back a finished state with its next place at the end
+  pub endState :
+      (before : List Call) (call : Call) (after : List Call) → before ++ call ∷ after ≡ calls →
+      ReportsEnd (outcomeAfter answer opening before call) →
+      (finished (outcomeAfter answer opening before call .state) ≡ true) × (next (outcomeAfter answer opening before call .state) ≡ end)
   -- each call is accepted that brings what it should and a page of one line or more
   pub pageAccepted :
       (before : List Call) (call : Call) (after : List Call) → before ++ call ∷ after ≡ calls →
@@ -134,4 +141,4 @@ EveryRunComplete =
     (Brings : Call → Type 0) (Kept : State → Type 0) (P : ℕ → Bool) (end : ℕ) → IsListing answer next finished lines Brings Kept P end →
     (opening : State) → next opening ≡ 0 → finished opening ≡ false → Kept opening →
     (calls : List Call) → AcceptedBring answer Brings opening calls →
-    CompleteRun answer next lines Brings P end opening calls
+    CompleteRun answer next finished lines Brings P end opening calls

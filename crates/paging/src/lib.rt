@@ -1,17 +1,21 @@
-// A page of the places at which a phrase stands: a short loop over the search for the next hit.
+// A page of the places at which a phrase stands: a short loop over the search for the next hit, and
+// one over all places for the phrase of no words.
 //
-// No function of this crate is an entry: each requires that the four slices have passed the check,
-// and `starts` is the table that `starts::node_starts` fills.
+// No function of this crate is an entry: `fill_page` and `write_page` require that the four slices
+// have passed the check, and `starts` is the table that `starts::node_starts` fills.
 ghost use mathlib.Core.Path.{_≡_};
 ghost use mathlib.Core.Bool.{false};
 ghost use Prim.Native.Nat.{_≤_};
 ghost use lib.ListN.{length};
-ghost use Rattle.base.specs.Texts.{maxWords};
+ghost use Rattle.base.specs.Lists.{Below};
+ghost use Rattle.base.specs.Texts.{maxWords, maxPhrase};
 ghost use Rattle.base.specs.Answers.{front};
 ghost use Rattle.index.specs.Arrays.{Arrays, arrays, textIn};
+ghost use Rattle.words.specs.Ready.{Checked};
 ghost use Rattle.phrases.specs.Phrases.{stands};
 ghost use Rattle.pages.specs.Pages.{pageOver};
-ghost use Rattle.matching.specs.Searching.{Searchable, Searching};
+ghost use Rattle.matching.specs.Searching.{Searching};
+ghost use Rattle.paging.specs.Places.{everyPlace};
 ghost use Rattle.paging.specs.Written.{writtenOf, fullAt, endedAt};
 use hits::Hit;
 use index::Shape;
@@ -121,7 +125,30 @@ fn fill_page(
     }
 }
 
-// Writes a page of the places at or after the next one at which a phrase stands.
+// Writes the places from one on, up to an end and with it, to the front of a slice, until it is full
+// or they run out.
+fn write_places(from: Place, end: Place, lines: &mut [u32]) -> Written
+    requires { ⌜ (from .0 ≤ end .0) × (end .0 ≤ maxWords) ⌝ }
+    ensures { λ r. ⌜ (r ≡ writtenOf (pageOver everyPlace (end .0) (length (now (lines .entry))) (from .0) false))
+        × (now (lines .exit) ≡ front (pageOver everyPlace (end .0) (length (now (lines .entry))) (from .0) false .found) (now (lines .entry))) ⌝ }
+{
+    let mut count: usize = 0;
+    let mut last = Place(0);
+    let mut at = from;
+    while at.0 <= end.0 {
+        if count == lines.len() {
+            return Written::full(count, last);
+        }
+        lines[count] = at.0 as u32;
+        count += 1;
+        last = at;
+        at = Place(at.0 + 1);
+    }
+    Written::ended(count, end.0)
+}
+
+// Writes a page of the places at or after the next one at which a phrase stands. One of no words
+// stands at every place of the text, its end too: no table is made for it, and nothing is sought.
 pub fn write_page(
     s: usize,
     shape: Shape,
@@ -129,20 +156,25 @@ pub fn write_page(
     bytes: &[u8],
     superblocks: &[u32],
     blocks: &[u16],
-    starts: &[u32],
     words: &[u32],
     next: Place,
     lines: &mut [u32],
 ) -> Written
     ghost { Arrays }
     requires { λ a. ⌜ arrays (now lengths) (now bytes) (now superblocks) (now blocks) ≡ a ⌝ }
-    requires { λ a. ⌜ Searchable s shape a (now starts) (now words) × (next .0 ≤ length (textIn s a)) ⌝ }
+    requires { λ a. ⌜ Checked s shape a × (length (now words) ≤ maxPhrase) × Below (shape .vocabulary) (now words) × (next .0 ≤ length (textIn s a)) ⌝ }
     ensures { λ a r. ⌜ (r ≡ writtenOf (pageOver (stands (textIn s a) (now (words .entry))) (length (textIn s a)) (length (now (lines .entry))) (next .0) false))
         × (now (lines .exit) ≡ front (pageOver (stands (textIn s a) (now (words .entry))) (length (textIn s a)) (length (now (lines .entry))) (next .0) false .found) (now (lines .entry))) ⌝ }
 {
+    let m = words.len();
+    if m == 0 {
+        let end = Place(words::text_length(lengths));
+        return write_places(next, end, lines);
+    }
+    let mut starts = [0u32; starts::MAX_STARTS];
+    starts::node_starts(lengths, &mut starts);
     let mut table = [0u8; 16];
     matching::first_bytes(s, words, &mut table);
-    let m = words.len();
     fill_page(
         s,
         shape,
@@ -150,7 +182,7 @@ pub fn write_page(
         bytes,
         superblocks,
         blocks,
-        starts,
+        &starts,
         &table[..m],
         words,
         next,

@@ -1,4 +1,5 @@
 pub mod Standing
+pub mod NoWords
 pub mod Anchors
 pub mod Offsets
 pub mod Mirror

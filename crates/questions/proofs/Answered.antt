@@ -15,7 +15,7 @@ use Rattle.base.specs.Refusals.{refusalKind, refusalPhrase, refusalAskedRank, r
 use Rattle.base.specs.Lists.{firstWhere}
 use Rattle.base.specs.Answers.{accepted, refused, _⇒_, firstOf, NoneHolds}
 use Rattle.base.specs.Texts.{maxPhrase, maxOffset, outside, ranksBelow}
-use Rattle.base.proofs.Tests.{or-false, or-left, or-right, or-neither, inside-range, below-range, above-range, range-inside}
+use Rattle.base.proofs.Tests.{or-false, or-left, or-right, or-neither, inside-range}
 use Rattle.base.proofs.Texts.{rank-outside, no-rank-outside}
 use Rattle.base.proofs.Answers.{first-here, first-later, first-append, first-decided, none-holds, answers, filled-not}
 use Rattle.dense.specs.Code.{vocabularyCase}
@@ -127,41 +127,37 @@ module _ (vocab : ℕ) (t : List ℕ) (w v : ℕ) (d : ℤ) where
   unfolding neighboursAnswer rankAskedCase
   neighbours-near h k l = answers (rankAskedCase vocab (w ∷ v ∷ []) ∷ (ltb maxOffset (natAbs d) ⇒ refused refusalOffset) ∷ []) (accepted (neighbours t w v d)) (two-below vocab w v h k, (le-ltb maxOffset (natAbs d) l, tt))
 
--- a phrase that is not refused: it has 1 to 16 words, lies in the lent words, and has ranks below V
+-- a phrase that is not refused: it has up to 16 words, lies in the lent words, and has ranks below V
 pub record PhraseFits (vocab : ℕ) (words : List ℕ) (start len : ℕ) : Type 0 where
-  pub some : 1 ≤ len
   pub most : len ≤ maxPhrase
   pub inside : start + len ≤ length words
   pub below : ranksBelow vocab (phraseIn words start len) ≡ true
 
 -- kind 5
 module _ (vocab : ℕ) (words : List ℕ) (start len : ℕ) where
-  phrase-outside : outside 1 maxPhrase len || ltb (length words) (start + len) ≡ true → phraseRefusal vocab words start len ≡ refusalPhrase
+  phrase-outside : ltb maxPhrase len || ltb (length words) (start + len) ≡ true → phraseRefusal vocab words start len ≡ refusalPhrase
   unfolding phraseRefusal phraseCases
-  phrase-outside h = ap (λ (r : Answer). r .refusal) (first-here (outside 1 maxPhrase len || ltb (length words) (start + len)) (refused refusalPhrase) (rankAskedCase vocab (phraseIn words start len) ∷ []) (accepted 0) h)
-
-  pub phrase-short : len < 1 → phraseRefusal vocab words start len ≡ refusalPhrase
-  phrase-short h = phrase-outside (or-left (outside 1 maxPhrase len) (ltb (length words) (start + len)) (below-range 1 maxPhrase len h))
+  phrase-outside h = ap (λ (r : Answer). r .refusal) (first-here (ltb maxPhrase len || ltb (length words) (start + len)) (refused refusalPhrase) (rankAskedCase vocab (phraseIn words start len) ∷ []) (accepted 0) h)
 
   pub phrase-long : maxPhrase < len → phraseRefusal vocab words start len ≡ refusalPhrase
-  phrase-long h = phrase-outside (or-left (outside 1 maxPhrase len) (ltb (length words) (start + len)) (above-range 1 maxPhrase len h))
+  phrase-long h = phrase-outside (or-left (ltb maxPhrase len) (ltb (length words) (start + len)) (lt-ltb maxPhrase len h))
 
   pub phrase-past : length words < start + len → phraseRefusal vocab words start len ≡ refusalPhrase
-  phrase-past h = phrase-outside (or-right (outside 1 maxPhrase len) (ltb (length words) (start + len)) (lt-ltb (length words) (start + len) h))
+  phrase-past h = phrase-outside (or-right (ltb maxPhrase len) (ltb (length words) (start + len)) (lt-ltb (length words) (start + len) h))
 
-  inside-part : 1 ≤ len → len ≤ maxPhrase → start + len ≤ length words → outside 1 maxPhrase len || ltb (length words) (start + len) ≡ false
-  inside-part h k l = or-false (outside 1 maxPhrase len) (ltb (length words) (start + len)) (inside-range 1 maxPhrase len h k) (le-ltb (length words) (start + len) l)
+  inside-part : len ≤ maxPhrase → start + len ≤ length words → ltb maxPhrase len || ltb (length words) (start + len) ≡ false
+  inside-part k l = or-false (ltb maxPhrase len) (ltb (length words) (start + len)) (le-ltb maxPhrase len k) (le-ltb (length words) (start + len) l)
 
-  pub phrase-rank : 1 ≤ len → len ≤ maxPhrase → start + len ≤ length words → ranksBelow vocab (phraseIn words start len) ≡ false → phraseRefusal vocab words start len ≡ refusalAskedRank
+  pub phrase-rank : len ≤ maxPhrase → start + len ≤ length words → ranksBelow vocab (phraseIn words start len) ≡ false → phraseRefusal vocab words start len ≡ refusalAskedRank
   unfolding phraseRefusal phraseCases rankAskedCase
-  phrase-rank h k l e =
+  phrase-rank k l e =
       ap (λ (r : Answer). r .refusal)
-      (first-later (outside 1 maxPhrase len || ltb (length words) (start + len)) (refused refusalPhrase) (rankAskedCase vocab (phraseIn words start len) ∷ []) (accepted 0) (inside-part h k l)
+      (first-later (ltb maxPhrase len || ltb (length words) (start + len)) (refused refusalPhrase) (rankAskedCase vocab (phraseIn words start len) ∷ []) (accepted 0) (inside-part k l)
       ∙ first-here (not (ranksBelow vocab (phraseIn words start len))) (refused refusalAskedRank) [] (accepted 0) (ap not e))
 
-  pub phrase-none : 1 ≤ len → len ≤ maxPhrase → start + len ≤ length words → ranksBelow vocab (phraseIn words start len) ≡ true → phraseRefusal vocab words start len ≡ 0
+  pub phrase-none : len ≤ maxPhrase → start + len ≤ length words → ranksBelow vocab (phraseIn words start len) ≡ true → phraseRefusal vocab words start len ≡ 0
   unfolding phraseRefusal phraseCases rankAskedCase
-  phrase-none h k l e = ap (λ (r : Answer). r .refusal) (answers (phraseCases vocab words start len) (accepted 0) (inside-part h k l, (ap not e, tt)))
+  phrase-none k l e = ap (λ (r : Answer). r .refusal) (answers (phraseCases vocab words start len) (accepted 0) (inside-part k l, (ap not e, tt)))
 
   -- a phrase that lies in the lent words has its length
   pub part-length : start + len ≤ length words → length (phraseIn words start len) ≡ len
@@ -192,9 +188,8 @@ module _ (vocab : ℕ) (words : List ℕ) (start len : ℕ) where
   unfolding phraseCases rankAskedCase
   phrase-fits e =
       let n = phrase-clear e in
-      let part = or-neither (outside 1 maxPhrase len) (ltb (length words) (start + len)) (n .0) in
-      let range = range-inside 1 maxPhrase len (part .0) in
-      record { some = range .0; most = range .1; inside = ltb-false (length words) (start + len) (part .1); below = not-false (ranksBelow vocab (phraseIn words start len)) (n .1 .0) }
+      let part = or-neither (ltb maxPhrase len) (ltb (length words) (start + len)) (n .0) in
+      record { most = ltb-false maxPhrase len (part .0); inside = ltb-false (length words) (start + len) (part .1); below = not-false (ranksBelow vocab (phraseIn words start len)) (n .1 .0) }
 
   pub phrase-counted : (t : List ℕ) → phraseRefusal vocab words start len ≡ 0 → phraseAnswer vocab t words start len ≡ accepted (length (places t (phraseIn words start len)))
   unfolding phraseAnswer
@@ -210,7 +205,7 @@ module _ (vocab : ℕ) (words : List ℕ) (start len : ℕ) where
 
   pub phrase-refused : (t : List ℕ) → (phraseRefusal vocab words start len ≡ 0 → ⊥) → phraseAnswer vocab t words start len ≡ refused (phraseRefusal vocab words start len)
   unfolding phraseAnswer phraseRefusal phraseCases rankAskedCase
-  phrase-refused t h = refused-number (outside 1 maxPhrase len || ltb (length words) (start + len)) (not (ranksBelow vocab (phraseIn words start len))) (length (places t (phraseIn words start len))) h
+  phrase-refused t h = refused-number (ltb maxPhrase len || ltb (length words) (start + len)) (not (ranksBelow vocab (phraseIn words start len))) (length (places t (phraseIn words start len))) h
 
 -- a question is answered by its kind
 module _ (vocab : ℕ) (t words : List ℕ) (q : Question) where

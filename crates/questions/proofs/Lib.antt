@@ -1,4 +1,5 @@
 pub mod Unused
 pub mod Read
 pub mod Answered
+pub mod NoWords
 pub mod Built

@@ -25,10 +25,10 @@ rankAskedCase vocab asked = not (ranksBelow vocab asked) ⇒ refused refusalAske
 unfoldable pub phraseIn : List ℕ → ℕ → ℕ → List ℕ
 phraseIn words start len = take len (drop start words)
 
--- refusals 8 and 9 of a phrase: its length is outside 1 to 16 or its part outside the lent words; one of its words is not below V
+-- refusals 8 and 9 of a phrase: its length is above 16 or its part outside the lent words; one of its words is not below V
 unfoldable pub phraseCases : ℕ → List ℕ → ℕ → ℕ → List Case
 phraseCases vocab words start len =
-    (outside 1 maxPhrase len || ltb (length words) (start + len) ⇒ refused refusalPhrase)
+    (ltb maxPhrase len || ltb (length words) (start + len) ⇒ refused refusalPhrase)
     ∷ rankAskedCase vocab (phraseIn words start len)
     ∷ []
 

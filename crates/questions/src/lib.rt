@@ -19,7 +19,7 @@ impl Question {
     // The offset runs from -MAX_OFFSET to MAX_OFFSET.
     pub const MAX_OFFSET: i32 = 16;
 
-    // A phrase has 1 to MAX_PHRASE words.
+    // A phrase has up to MAX_PHRASE words.
     pub const MAX_PHRASE: usize = 16;
 
     // Kind 1: the rank at place p.

@@ -69,7 +69,7 @@ module _ (P : Answer → Type 0) where
       phrase : (words : List ℕ) (start len : ℕ) → P (accepted (length (places t (phraseIn words start len)))) → P (phraseAnswer vocab t words start len)
       unfolding phraseAnswer phraseCases rankAskedCase
       phrase words start len h =
-          two (outside 1 maxPhrase len || ltb (length words) (start + len)) (not (ranksBelow vocab (phraseIn words start len))) (refused refusalPhrase) (refused refusalAskedRank) (accepted (length (places t (phraseIn words start len))))
+          two (ltb maxPhrase len || ltb (length words) (start + len)) (not (ranksBelow vocab (phraseIn words start len))) (refused refusalPhrase) (refused refusalAskedRank) (accepted (length (places t (phraseIn words start len))))
           (refuses refusalPhrase (omega arith) (omega arith)) rank h
 
       pub each-answer : ((p : ℕ) → P (accepted (rankAt t p))) → ((w p : ℕ) → P (accepted (occurrencesBelow t w p))) → ((w p : ℕ) → P (accepted (nthPlace t w p)))

@@ -4,32 +4,27 @@ use mathlib.Core.Path.{_≡_, sym}
 use native.Mathlib.Omega.{arith}
 use borrow.Author.Needs.{needs}
 use lib.ListN.{length}
-use Rattle.questions.proofs.Answered.{phrase-short, phrase-long, phrase-past, phrase-rank, phrase-none, part-outside, part-below}
+use Rattle.questions.proofs.Answered.{phrase-long, phrase-past, phrase-rank, phrase-none, part-outside, part-below}
 use Rattle.answering.proofs.phrase_refusal.Statement.{statement}
 use Rattle.answering.proofs.phrase_refusal.Tie as tie
 
 returns : tie.Need-returns
 returns c =
     let st = c .before .before in
-    sym (phrase-short (st .args .vocabulary) (st .args .words .now) (st .args .start) (st .args .count) (c .if1 .taken))
+    sym (phrase-long (st .args .vocabulary) (st .args .words .now) (st .args .start) (st .args .count) (c .if1 .taken))
 
 returns-2 : tie.Need-returns-2
 returns-2 c =
     let st = c .before .before .before in
-    sym (phrase-long (st .args .vocabulary) (st .args .words .now) (st .args .start) (st .args .count) (c .if2 .taken))
+    sym (phrase-past (st .args .vocabulary) (st .args .words .now) (st .args .start) (st .args .count) (omega (arith, c .if2 .taken)))
+
+sub-if3 : tie.Need-sub-if3
+sub-if3 c = search needs
 
 returns-3 : tie.Need-returns-3
 returns-3 c =
     let st = c .before .before .before .before in
-    sym (phrase-past (st .args .vocabulary) (st .args .words .now) (st .args .start) (st .args .count) (omega (arith, c .if3 .taken)))
-
-sub-if4 : tie.Need-sub-if4
-sub-if4 c = search needs
-
-returns-4 : tie.Need-returns-4
-returns-4 c =
-    let st = c .before .before .before .before .before in
-    sym (phrase-past (st .args .vocabulary) (st .args .words .now) (st .args .start) (st .args .count) (omega (arith, c .if4 .taken, c .before .if3 .left)))
+    sym (phrase-past (st .args .vocabulary) (st .args .words .now) (st .args .start) (st .args .count) (omega (arith, c .if3 .taken, c .before .if2 .left)))
 
 add-end : tie.Need-add-end
 add-end c = search needs
@@ -49,21 +44,21 @@ part-first-outside-end c = search needs
 first-outside-requires : tie.Need-first-outside-requires
 first-outside-requires c κs = search needs
 
+returns-4 : tie.Need-returns-4
+returns-4 c =
+    let st = c .before .before .before .before .before .before .before in
+    let m : st .args .start + st .args .count - st .args .start ≡ st .args .count = omega arith in
+    let inside : st .args .start + st .args .count ≤ length (st .args .words .now) = omega (arith, c .before .before .before .if3 .left, c .before .before .before .before .if2 .left) in
+    sym (phrase-rank (st .args .vocabulary) (st .args .words .now) (st .args .start) (st .args .count) (c .before .before .before .before .before .if1 .left) inside
+    (part-outside (st .args .vocabulary) (st .args .words .now) (st .args .start) (st .args .count) inside (st .args .start + st .args .count - st .args .start) (c .before .first-outside .result) m (c .before .first-outside .ensures) (c .if4 .taken)))
+
 returns-5 : tie.Need-returns-5
 returns-5 c =
-    let st = c .before .before .before .before .before .before .before .before in
+    let st = c .before .before .before .before .before .before .before in
     let m : st .args .start + st .args .count - st .args .start ≡ st .args .count = omega arith in
-    let inside : st .args .start + st .args .count ≤ length (st .args .words .now) = omega (arith, c .before .before .before .if4 .left, c .before .before .before .before .if3 .left) in
-    sym (phrase-rank (st .args .vocabulary) (st .args .words .now) (st .args .start) (st .args .count) (c .before .before .before .before .before .before .if1 .left) (c .before .before .before .before .before .if2 .left) inside
-    (part-outside (st .args .vocabulary) (st .args .words .now) (st .args .start) (st .args .count) inside (st .args .start + st .args .count - st .args .start) (c .before .first-outside .result) m (c .before .first-outside .ensures) (c .if5 .taken)))
-
-returns-6 : tie.Need-returns-6
-returns-6 c =
-    let st = c .before .before .before .before .before .before .before .before in
-    let m : st .args .start + st .args .count - st .args .start ≡ st .args .count = omega arith in
-    let inside : st .args .start + st .args .count ≤ length (st .args .words .now) = omega (arith, c .before .before .before .if4 .left, c .before .before .before .before .if3 .left) in
-    sym (phrase-none (st .args .vocabulary) (st .args .words .now) (st .args .start) (st .args .count) (c .before .before .before .before .before .before .if1 .left) (c .before .before .before .before .before .if2 .left) inside
-    (part-below (st .args .vocabulary) (st .args .words .now) (st .args .start) (st .args .count) inside (st .args .start + st .args .count - st .args .start) (c .before .first-outside .result) m (c .before .first-outside .ensures) (c .if5 .left)))
+    let inside : st .args .start + st .args .count ≤ length (st .args .words .now) = omega (arith, c .before .before .before .if3 .left, c .before .before .before .before .if2 .left) in
+    sym (phrase-none (st .args .vocabulary) (st .args .words .now) (st .args .start) (st .args .count) (c .before .before .before .before .before .if1 .left) inside
+    (part-below (st .args .vocabulary) (st .args .words .now) (st .args .start) (st .args .count) inside (st .args .start + st .args .count - st .args .start) (c .before .first-outside .result) m (c .before .first-outside .ensures) (c .if4 .left)))
 
 pub phrase-refusal-spec : {M : Type 1} → statement M
 phrase-refusal-spec =
@@ -71,14 +66,13 @@ phrase-refusal-spec =
     (tie.spec
     returns
     returns-2
+    sub-if3
     returns-3
-    sub-if4
-    returns-4
     add-end
     mul-first-outside
     sub-first-outside
     part-first-outside-start
     part-first-outside-end
     first-outside-requires
-    returns-5
-    returns-6)
+    returns-4
+    returns-5)

@@ -2,12 +2,16 @@
 use mathlib.Core.Path.{_≡_, sym, ap, _∙_}
 use native.Mathlib.Omega.{arith}
 use borrow.Author.Needs.{needs}
-use Rattle.index.specs.Arrays.{Arrays, arrays}
+use borrow.Author.Tests.{eqb-true}
+use lib.ListN.{length}
+use Rattle.index.specs.Arrays.{Arrays, arrays, textIn}
 use Rattle.base.specs.declared.Answer.{Answer}
 use Rattle.index.specs.Entries.{checkAnswer}
-use Rattle.words.proofs.Parts.{accepted-checked, checked-most, checked-total}
+use Rattle.words.proofs.Parts.{accepted-checked, checked-some, checked-most, checked-total}
+use Rattle.words.proofs.Positions.{text-most}
 use Rattle.words.specs.Ready.{Checked}
-use Rattle.questions.proofs.Answered.{check-passed, ask-refused}
+use Rattle.questions.specs.Answering.{phraseAnswer, questionAnswer, askAnswer}
+use Rattle.questions.proofs.Answered.{check-passed, ask-refused, kind-5}
 use Rattle.questions.proofs.Read.{ask-passed}
 use Rattle.asking.proofs.ask_of.Statement.{statement}
 use Rattle.asking.proofs.ask_of.Tie as tie
@@ -17,11 +21,24 @@ abbrev four : tie.Start → Arrays
 four c = arrays (c .args .lengths .now) (c .args .bytes .now) (c .args .superblocks .now) (c .args .blocks .now)
 
 -- past the first test the slices have passed the check
-none : (c : tie.Else1) → checkAnswer (c .before .before .before .before .before .before .before .before .args .s) (c .before .before .before .before .before .before .before .before .args .shape) (four (c .before .before .before .before .before .before .before .before)) .refusal ≡ 0
-none c = ap (λ (r : Answer). r .refusal) (sym (c .before .before .check-of .ensures)) ∙ c .if1 .left
+module _ (c : tie.Else1) where
+  abbrev start : tie.Start
+  start = c .before .before .before .before .before .before .before .before
 
-checked : (c : tie.Else1) → Checked (c .before .before .before .before .before .before .before .before .args .s) (c .before .before .before .before .before .before .before .before .args .shape) (four (c .before .before .before .before .before .before .before .before))
-checked c = accepted-checked (c .before .before .before .before .before .before .before .before .args .s) (c .before .before .before .before .before .before .before .before .pre) (c .before .before .before .before .before .before .before .before .args .shape) (four (c .before .before .before .before .before .before .before .before)) (none c)
+  none : checkAnswer (start .args .s) (start .args .shape) (four start) .refusal ≡ 0
+  none = ap (λ (r : Answer). r .refusal) (sym (c .before .before .check-of .ensures)) ∙ c .if1 .left
+
+  checked : Checked (start .args .s) (start .args .shape) (four start)
+  checked = accepted-checked (start .args .s) (start .pre) (start .args .shape) (four start) none
+
+  -- and the question is answered of their text
+  answered : askAnswer (start .args .s) (start .args .shape) (four start) (start .args .words .now) (start .args .question)
+      ≡ questionAnswer (start .args .shape .vocabulary) (textIn (start .args .s) (four start)) (start .args .words .now) (start .args .question)
+  answered = ask-passed (start .args .s) (start .args .shape) (four start) (start .args .words .now) (start .args .question) (check-passed (start .args .s) (start .args .shape) (four start) none)
+
+-- the length of the text as it is read
+size : (c : tie.After-text-length) → c .text-length .result ≡ length (textIn (start (c .before .before .before .before .before) .args .s) (four (start (c .before .before .before .before .before))))
+size c = c .text-length .ensures .1 _ _ _ _ _ (checked (c .before .before .before .before .before))
 
 check-of-requires : tie.Need-check-of-requires
 check-of-requires c κs = search needs
@@ -32,22 +49,35 @@ returns c =
     c .before .before .check-of .ensures
     ∙ sym (ask-refused (st .args .s) (st .args .shape) (four st) (λ e. c .if1 .taken (ap (λ (r : Answer). r .refusal) (c .before .before .check-of .ensures) ∙ e)) (st .args .words .now) (st .args .question))
 
+text-length-requires : tie.Need-text-length-requires
+text-length-requires c κs = checked-some (checked (c .before .before .before .before))
+
+answer-no-words-requires : tie.Need-answer-no-words-requires
+answer-no-words-requires c κs = omega (arith, size c, text-most (checked (c .before .before .before .before .before)))
+
+returns-2 : tie.Need-returns-2
+returns-2 c =
+    let at = c .before .before .before .before .before .before in
+    let st = start at in
+    let t = textIn (st .args .s) (four st) in
+    c .answer-no-words .ensures (st .args .shape .vocabulary) t (sym (size (c .before)))
+    ∙ ap (phraseAnswer (st .args .shape .vocabulary) t (st .args .words .now) (st .args .question .start)) (sym (eqb-true (st .args .question .length) 0 (c .before .before .if3 .taken)))
+    ∙ sym (answered at ∙ kind-5 (st .args .shape .vocabulary) t (st .args .words .now) (st .args .question) (c .before .before .before .before .if2 .taken))
+
 slice-aggregate-node-starts : tie.Need-slice-aggregate-node-starts
 slice-aggregate-node-starts c = search needs
 
 node-starts-requires : tie.Need-node-starts-requires
-node-starts-requires c κs = (omega (arith, checked-most (checked (c .before))), checked-total (checked (c .before)))
+node-starts-requires c κs = (omega (arith, checked-most (checked (c .before .before .before))), checked-total (checked (c .before .before .before)))
 
 slice-aggregate-answer : tie.Need-slice-aggregate-answer
 slice-aggregate-answer c = search needs
 
 answer-requires : tie.Need-answer-requires
-answer-requires c κs = record { checked = checked (c .before .before .before .before); nodes = c .before .before .node-starts .ensures }
+answer-requires c κs = record { checked = checked (c .before .before .before .before .before .before); nodes = c .before .before .node-starts .ensures }
 
-returns-2 : tie.Need-returns-2
-returns-2 c =
-    let st = c .before .before .before .before .before .before .before .before .before .before .before .before .before in
-    c .answer .ensures ∙ sym (ask-passed (st .args .s) (st .args .shape) (four st) (st .args .words .now) (st .args .question) (check-passed (st .args .s) (st .args .shape) (four st) (none (c .before .before .before .before .before))))
+returns-3 : tie.Need-returns-3
+returns-3 c = c .answer .ensures ∙ sym (answered (c .before .before .before .before .before .before .before))
 
 pub ask-of-spec : {M : Type 1} → statement M
 ask-of-spec =
@@ -55,8 +85,11 @@ ask-of-spec =
     (tie.spec
     check-of-requires
     returns
+    text-length-requires
+    answer-no-words-requires
+    returns-2
     slice-aggregate-node-starts
     node-starts-requires
     slice-aggregate-answer
     answer-requires
-    returns-2)
+    returns-3)

@@ -8,7 +8,7 @@ use Rattle.base.specs.Answers.{front}
 use Rattle.base.proofs.Texts.{below-of-test}
 use Rattle.index.specs.Arrays.{Arrays, arrays, textIn}
 use Rattle.words.specs.Ready.{Checked}
-use Rattle.words.proofs.Parts.{accepted-checked, checked-most, checked-total}
+use Rattle.words.proofs.Parts.{accepted-checked}
 use Rattle.phrases.specs.Phrases.{stands}
 use Rattle.pages.specs.Pages.{HitPage, pageOver}
 use Rattle.paging.specs.Written.{writtenOf}
@@ -41,20 +41,11 @@ fits c = phrase-fits (c .args .shape .vocabulary) (c .args .words .now) (c .args
 far : (c : tie.After-shared-slice-known5) → length (c .before .before .before .before .before .args .words .now) * 4 < 18446744073709551616
 far c = omega arith
 
-slice-aggregate-node-starts : tie.Need-slice-aggregate-node-starts
-slice-aggregate-node-starts c = search needs
-
-node-starts-requires : tie.Need-node-starts-requires
-node-starts-requires c κs = (omega (arith, checked-most (checked (c .before .before .before .before .before .before .before))), checked-total (checked (c .before .before .before .before .before .before .before)))
-
 add-end : tie.Need-add-end
-add-end c = omega (arith, fits (c .before .before .before .before .before .before .before .before .before) .inside, far (c .before .before .before .before))
-
-slice-aggregate-write-page : tie.Need-slice-aggregate-write-page
-slice-aggregate-write-page c = search needs
+add-end c = omega (arith, fits (c .before .before .before .before .before .before) .inside, far (c .before))
 
 mul-write-page : tie.Need-mul-write-page
-mul-write-page c = omega (arith, fits (c .before .before .before .before .before .before .before .before .before .before) .inside, far (c .before .before .before .before .before))
+mul-write-page c = omega (arith, fits (c .before .before .before .before .before .before) .inside, far (c .before))
 
 sub-write-page : tie.Need-sub-write-page
 sub-write-page c = search needs
@@ -63,22 +54,19 @@ part-write-page-start : tie.Need-part-write-page-start
 part-write-page-start c = search needs
 
 part-write-page-end : tie.Need-part-write-page-end
-part-write-page-end c = omega (arith, fits (c .before .before .before .before .before .before .before .before .before .before) .inside)
+part-write-page-end c = omega (arith, fits (c .before .before .before .before .before .before) .inside)
 
 write-page-requires : tie.Need-write-page-requires
 unfolding phraseIn
 write-page-requires c κs =
-    let st = c .before .before .before .before .before .before .before .before .before .before .before .before in
+    let st = c .before .before .before .before .before .before .before .before in
     let m : st .args .start + st .args .count - st .args .start ≡ st .args .count = omega arith in
     let f = fits st in
     let n : length (phraseIn (st .args .words .now) (st .args .start) (st .args .count)) ≡ st .args .count = part-length (st .args .shape .vocabulary) (st .args .words .now) (st .args .start) (st .args .count) (f .inside) in
     rw m (
-      record {
-        ready = record { checked = checked st; nodes = c .before .before .before .before .node-starts .ensures };
-        some = omega (arith, n, f .some);
-        most = omega (arith, n, f .most);
-        below = below-of-test (st .args .shape .vocabulary) (phraseIn (st .args .words .now) (st .args .start) (st .args .count)) (f .below);
-      },
+      checked st,
+      omega (arith, n, f .most),
+      below-of-test (st .args .shape .vocabulary) (phraseIn (st .args .words .now) (st .args .start) (st .args .count)) (f .below),
       passed st .inside,
     )
 
@@ -91,7 +79,7 @@ same-length c = search needs
 returns : tie.Need-returns
 unfolding phraseIn callPage
 returns c =
-    let st = c .before .before .before .before .before .before .before .before .before .before .before .before .before .before .before .before in
+    let st = c .before .before .before .before .before .before .before .before .before .before .before .before in
     let m : st .args .start + st .args .count - st .args .start ≡ st .args .count = omega arith in
     let t = textIn (st .args .s) (four st) in
     let e : pageOver (stands t (take (st .args .start + st .args .count - st .args .start) (drop (st .args .start) (st .args .words .now)))) (length t) (length (st .args .lines .now)) (st .args .state .next) false ≡ callPage (callAt st) (st .args .state) =
@@ -104,10 +92,7 @@ pub written-page-spec : {M : Type 1} → statement M
 written-page-spec =
     tie.close
     (tie.spec
-    slice-aggregate-node-starts
-    node-starts-requires
     add-end
-    slice-aggregate-write-page
     mul-write-page
     sub-write-page
     part-write-page-start

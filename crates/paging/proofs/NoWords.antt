@@ -1,0 +1,20 @@
+-- A page of the phrase of no words is one of all places. Assumes nothing.
+use Prim.Native.Nat.{ℕ, suc, _-_}
+use mathlib.Core.Path.{_≡_, refl, sym, ap, _∙_}
+use mathlib.Core.Bool.{false}
+use mathlib.Core.List.{List}
+use lib.ListN.{length}
+use Rattle.base.proofs.Ranges.{filter-range-all}
+use Rattle.phrases.specs.Phrases.{stands}
+use Rattle.phrases.proofs.NoWords.{none-from}
+use Rattle.pages.specs.Pages.{pageOver}
+use Rattle.pages.proofs.Pages.{page-by-hits}
+use Rattle.paging.specs.Places.{everyPlace}
+
+-- of a text of n words
+pub none-page : (t ws : List ℕ) (n lines next : ℕ) → length ws ≡ 0 → n ≡ length t
+    → pageOver everyPlace n lines next false ≡ pageOver (stands t ws) (length t) lines next false
+none-page t ws n lines next none e =
+    ap (λ (k : ℕ). pageOver everyPlace k lines next false) e
+    ∙ page-by-hits everyPlace (stands t ws) (length t) lines next next
+    (filter-range-all everyPlace next (suc (length t) - next) (λ q l u. refl) ∙ sym (none-from t ws none next))
