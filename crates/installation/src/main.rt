@@ -214,6 +214,25 @@ fn list_phrase() {
     end(b"not 3: the count is unlike the listing");
 }
 
+// Lists the phrase of no words, with which a screen starts before a word is typed, and counts it.
+fn list_places() {
+    let small = SmallIndex::of(8, &[7; 4], 1, 4);
+    let mut lines = [9u32; 4];
+    let page = small.page(Listing::open(), &[], 0, 0, &mut lines);
+    let mut last = [9u32; 1];
+    small.page(page.listing, &[], 0, 0, &mut last);
+    printing::words(
+        b"Before a word is typed, the phrase of no words is listed there on pages of four and one:",
+    );
+    printing::ranks(&lines);
+    printing::words(b",");
+    printing::ranks(&last);
+    end(b"not 0 1 2 3, 4: a place is left out, or the end of the text is none");
+    start(b"How often it is counted");
+    value(small.ask(&[], Question::phrase(0, 0)));
+    end(b"not 5: the count is unlike the listing");
+}
+
 // Builds a text in slices of two nodes, eight bytes and two rows of counters of each kind, with sizes
 // that are handed back.
 fn build(text: &[u32], sizes: IndexSizes) -> Answer {
@@ -283,5 +302,6 @@ fn main() {
     read_words();
     read_passage();
     list_phrase();
+    list_places();
     count_words();
 }
