@@ -43,6 +43,10 @@ struct Engine {
         return concordance_check(shape, a.lengths.data(), a.lengths.size(), a.bytes.data(), a.bytes.size(), a.superblocks.data(),
                                  a.superblocks.size(), a.blocks.data(), a.blocks.size());
     }
+    concordance_answer ask(const std::vector<uint32_t> &words, concordance_question question) const {
+        return concordance_ask(shape, a.lengths.data(), a.lengths.size(), a.bytes.data(), a.bytes.size(), a.superblocks.data(),
+                               a.superblocks.size(), a.blocks.data(), a.blocks.size(), words.data(), words.size(), question);
+    }
     concordance_answer sheet(const std::vector<uint32_t> &words, const std::vector<concordance_question> &questions,
                              std::vector<uint32_t> &answers) const {
         return concordance_answer_sheet(shape, a.lengths.data(), a.lengths.size(), a.bytes.data(), a.bytes.size(), a.superblocks.data(),
@@ -148,6 +152,38 @@ static void pages(const Engine &engine, const Asked &asked) {
         });
     must(page.answer.refusal == 0 && page.answer.value == count && page.more == more && ours == theirs, "page");
     table.add(engine.a.lengths[0], "a page with room for 20 lines", time.one, "twin", time.other);
+}
+
+// The first page of the phrase of no words and its count, beside the twin and beside the check alone, which is all that they take but for the
+// lines.
+static void no_words(const Engine &engine, const Asked &asked) {
+    const size_t n = engine.a.lengths[0];
+    const char *page_row = "no words, a page of 100 lines", *count_row = "no words, the count", *alone = "the check alone";
+    std::vector<uint32_t> ours(100), theirs(100);
+    concordance_page page;
+    concordance_answer count;
+    uint32_t written = 0;
+    bool more = false;
+    size_t places = 0;
+    const auto check = [&] { must(engine.check().refusal == 0, "check"); };
+    const auto list = [&] { page = engine.page(concordance_open(), asked.words.data(), 0, ours); };
+    const auto ask = [&] { count = engine.ask(asked.words, {5, 0, 0, 0, 0, 0, 0}); };
+    const Both paged = in_turn(runs, list, [&] {
+        must(twin::check(engine.a, vocabulary), "check");
+        more = twin::page_of_no_words(engine.a, 0, theirs, written);
+    });
+    must(page.answer.refusal == 0 && page.answer.value == written && page.more == more && ours == theirs, page_row);
+    table.add(n, page_row, paged.one, "twin", paged.other);
+    const Both page_alone = in_turn(runs, list, check);
+    table.add(n, page_row, page_alone.one, alone, page_alone.other);
+    const Both counted = in_turn(runs, ask, [&] {
+        must(twin::check(engine.a, vocabulary), "check");
+        places = size_t(engine.a.lengths[0]) + 1;
+    });
+    must(count.refusal == 0 && count.value == places, count_row);
+    table.add(n, count_row, counted.one, "twin", counted.other);
+    const Both count_alone = in_turn(runs, ask, check);
+    table.add(n, count_row, count_alone.one, alone, count_alone.other);
 }
 
 static void passages(const Engine &engine, const std::vector<uint32_t> &text) {
@@ -405,6 +441,7 @@ static void measure(size_t n, uint32_t block, uint32_t per, bool peers) {
     const Asked asked = questions(text, twin::Index(engine.a), 7);
     sheets(engine, asked);
     pages(engine, asked);
+    no_words(engine, asked);
     passages(engine, text);
     reading(text);
     if (!peers) return;
@@ -419,7 +456,7 @@ static void plot(const char *file) {
     out << "<svg xmlns=\"http://www.w3.org/2000/svg\" viewBox=\"0 0 760 420\" font-family=\"sans-serif\" font-size=\"11\">\n"
         << "<text x=\"20\" y=\"20\" font-size=\"14\">Seconds of a call against the words of the text (both in powers of ten): engine solid, twin dashed</text>\n";
     const char *colours[] = {"#1b6ca8", "#c0392b", "#2e8b57", "#8e44ad", "#b8860b", "#444444", "#e67e22",
-                             "#16a085", "#7f8c8d", "#d35400", "#e84393", "#5d4037", "#00838f"};
+                             "#16a085", "#7f8c8d", "#d35400", "#e84393", "#5d4037", "#00838f", "#6b8e23", "#4b0082"};
     auto x = [](double words) { return 60 + 360 * (std::log10(words) - 6) / 1.3; };
     auto y = [](double time) { return 380 - 54 * (std::log10(time) + 4); };
     std::vector<std::string> names;
@@ -432,7 +469,7 @@ static void plot(const char *file) {
             engine += std::to_string(x(line.words)) + "," + std::to_string(y(line.engine)) + " ";
             twin += std::to_string(x(line.words)) + "," + std::to_string(y(line.peer)) + " ";
         }
-        const char *colour = colours[i % 13];
+        const char *colour = colours[i % 15];
         out << "<polyline points=\"" << engine << "\" fill=\"none\" stroke=\"" << colour << "\" stroke-width=\"1.6\"/>\n"
             << "<polyline points=\"" << twin << "\" fill=\"none\" stroke=\"" << colour << "\" stroke-dasharray=\"4 3\"/>\n"
             << "<text x=\"460\" y=\"" << 60 + 18 * i << "\" fill=\"" << colour << "\">" << names[i] << "</text>\n";

@@ -89,25 +89,29 @@ static void index_of_the_text(void) {
     blocks[0x80]--;
 }
 
-/* Entries 7 and 8: one question, and a sheet with a question of each kind. */
+/* Entries 7 and 8: one question, and a sheet with questions of each kind. The phrase of no words is counted at every place, 5 too. */
 static void questions(void) {
     const uint32_t words[2] = {0, 128};
-    const concordance_question sheet[6] = {
+    const concordance_question sheet[8] = {
         {.kind = 1, .p = 3},                    /* the rank at place 3 */
         {.kind = 2, .w = 128, .p = 4},          /* how often 128 stands below place 4 */
         {.kind = 3, .w = 128, .p = 2},          /* the place of the second 128 */
         {.kind = 4, .w = 0, .v = 129, .d = 1},  /* how often 129 stands right after 0 */
         {.kind = 5, .start = 0, .length = 2},   /* how often the phrase 0 128 stands */
+        {.kind = 5, .start = 2, .length = 0},   /* the phrase of no words, at the end of the lent words */
+        {.kind = 5, .start = 3, .length = 0},   /* past their end */
         {.kind = 1, .p = 5},                    /* past the end of the text */
     };
     show("ask, the second 128", concordance_ask(shape, INDEX, words, 2, sheet[2]));
     const concordance_question third = {.kind = 3, .w = 128, .p = 3};
     show("ask, the third 128", concordance_ask(shape, INDEX, words, 2, third));
+    const concordance_question no_words = {.kind = 5, .start = 0, .length = 0};
+    show("ask, no words, none lent", concordance_ask(shape, INDEX, words, 0, no_words));
 
-    uint32_t answers[12];
-    show("answer_sheet", concordance_answer_sheet(shape, INDEX, words, 2, sheet, 6, answers, 12));
-    for (size_t i = 0; i < 6; i++) printf(" kind %u: refusal %u, value %u\n", sheet[i].kind, answers[2 * i], answers[2 * i + 1]);
-    show("answer_sheet, room for 11 numbers", concordance_answer_sheet(shape, INDEX, words, 2, sheet, 6, answers, 11));
+    uint32_t answers[16];
+    show("answer_sheet", concordance_answer_sheet(shape, INDEX, words, 2, sheet, 8, answers, 16));
+    for (size_t i = 0; i < 8; i++) printf(" kind %u: refusal %u, value %u\n", sheet[i].kind, answers[2 * i], answers[2 * i + 1]);
+    show("answer_sheet, room for 15 numbers", concordance_answer_sheet(shape, INDEX, words, 2, sheet, 8, answers, 15));
 }
 
 /* Entry 9: a part of the text, read back from the index. */
@@ -131,6 +135,20 @@ static void pages(void) {
         page = concordance_list(page.listing, shape, INDEX, word, 1, 0, 1, line, 1);
         show("list", page.answer);
         printf(" place %u, next %zu, %s\n", line[0], page.listing.next, page.more ? "more follow" : "the end");
+    } while (page.more);
+}
+
+/* Entries 10 and 11 with the phrase of no words, which stands at each of the places 0 to 5: the first page is full one place before the last. */
+static void every_place(void) {
+    const uint32_t word[1] = {128};
+    uint32_t lines[WORDS];
+    concordance_page page = concordance_list(concordance_open(), shape, INDEX, word, 1, 2, 0, lines, WORDS);
+    show("list, no words, past the lent word", page.answer);
+    do {
+        page = concordance_list(page.listing, shape, INDEX, word, 1, 1, 0, lines, WORDS);
+        show("list, no words", page.answer);
+        show_numbers(lines, page.answer.value);
+        printf(" next %zu, %s\n", page.listing.next, page.more ? "more follow" : "the end");
     } while (page.more);
 }
 
@@ -167,6 +185,7 @@ int main(void) {
     questions();
     passages();
     pages();
+    every_place();
     plain_text();
     word_lists();
     return 0;

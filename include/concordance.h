@@ -43,7 +43,7 @@
  * The version of this header. It changes when an entry is added, or a struct or the meaning of an entry changes, so that a program can tell
  * what it was written for.
  */
-#define CONCORDANCE_VERSION 3
+#define CONCORDANCE_VERSION 4
 
 #ifdef __cplusplus
 extern "C" {
@@ -66,7 +66,7 @@ enum {
     CONCORDANCE_REFUSED_INDEX = 6,
     /* kind outside 1 to 5 */
     CONCORDANCE_REFUSED_KIND = 7,
-    /* phrase length outside 1 to 16, or part outside the lent words */
+    /* phrase length above 16, or part outside the lent words; an empty part is outside if it starts past their end */
     CONCORDANCE_REFUSED_PHRASE = 8,
     /* a rank asked about is not below V */
     CONCORDANCE_REFUSED_ASKED_RANK = 9,
@@ -136,7 +136,8 @@ typedef struct {
  *   2  how often w stands at places below p, p <= n
  *   3  the place of the p-th w, p from 1 up to the number there are
  *   4  the number of places q with w at q and v at q + d, where q + d is inside the text; d from -16 to 16, negative to the left
- *   5  how often the phrase stands that is the part (start, length) of the lent words, 1 to 16 of them; hits may overlap
+ *   5  how often the phrase stands that is the part (start, length) of the lent words, up to 16 of them; hits may overlap. The phrase of no
+ *      words, length 0, stands at every place from 0 to n: n + 1 times, once in the empty text
  */
 typedef struct {
     uint32_t kind;
@@ -155,7 +156,7 @@ typedef struct {
  * accepted or refused. If all accepted calls bring the same phrase and the same V, B, b and arrays, then the places of the accepted pages, one
  * page after another, are the places at which the phrase stands in the text: ascending, each once, none missing as soon as a page is
  * accepted without reporting more; then they are as many as concordance_ask, kind 5, counts. The page with the last place reports the end,
- * and so does the first page where there is none.
+ * and so does the first page where there is none. The places of the phrase of no words are 0, 1, .., n.
  */
 typedef struct {
     size_t next;
@@ -248,8 +249,9 @@ concordance_answer concordance_check(concordance_shape shape, const uint32_t *le
  *   2  9 if w is not below V; 11 if p is above n
  *   3  9 if w is not below V; 11 if p is 0 or above the number of places where w stands
  *   4  9 if w or v is not below V; 10 if d is outside -16 to 16
- *   5  8 if length is outside 1 to 16, or the part does not lie in the lent words (start + length above words_len, for any two numbers);
- *      9 if a word of the part is not below V
+ *   5  8 if length is above 16, or the part does not lie in the lent words (start + length above words_len, for any two numbers); 9 if a word
+ *      of the part is not below V. A part of length 0 may start at the end of the lent words, also where none is lent, but not past it;
+ *      it has no word, and 9 is never given for it
  * The value of each is 0. In kinds 2, 4 and 5, what does not stand in the text is no refusal: the answer is 0.
  */
 concordance_answer concordance_ask(concordance_shape shape, const uint32_t *lengths, size_t lengths_len, const uint8_t *bytes, size_t bytes_len,
@@ -272,8 +274,8 @@ concordance_answer concordance_answer_sheet(concordance_shape shape, const uint3
 /*
  * Reads a passage of the text back from its index.
  * Returns: passage_len.
- * Writes: the whole of `passage`, with the ranks from `place` on. An empty passage is accepted for any place up to n, n too, and writes
- * nothing.
+ * Writes: the whole of `passage`, with the ranks from `place` on. An empty passage, which is that of the phrase of no words, is accepted for
+ * any place up to n, n too, and writes nothing.
  * Refusals: 1, 3 and 6 as concordance_check; 11 if the passage does not end in the text (place + passage_len above n, for any two numbers).
  * The value of each is 0. A refused call changes nothing.
  */
@@ -294,7 +296,9 @@ concordance_listing concordance_open(void);
  * Returns: in `answer` the number of places written; in `more` whether the page is full and another place follows; in `listing` the state
  * for the next page. If more follow, its next is the last place written plus 1; otherwise it is finished with next n. A full page that no
  * further place follows does not report more. A finished state is accepted and refused like any other; accepted, it writes nothing,
- * returns 0 and not more, and comes back the same.
+ * returns 0 and not more, and comes back the same. The phrase of no words, length 0, has the places 0, 1, .., n: a page that is full with
+ * n - 1 as its last place reports more, with next n; the page that writes n is finished with next n. An accepted page never returns a next
+ * above n.
  * Writes: the places at or after listing.next where the phrase stands, ascending, in front of `lines`, until it is full or there are no
  * more; the elements past them stay.
  * Refusals: 1, 3 and 6 as concordance_check; 8 and 9 for the phrase as concordance_ask, kind 5; 11 if listing.next is above n, finished or

@@ -74,7 +74,7 @@ pub fn check(shape: Shape, arrays: Slices) -> Answer {
     with_arrays!(concordance_check(shape; arrays.as_ptr;))
 }
 
-/// Asks one question of an index.
+/// Asks one question of an index. The phrase of kind 5 may have no words, also where none are lent.
 pub fn ask(shape: Shape, arrays: Slices, words: &[u32], question: Question) -> Answer {
     with_arrays!(concordance_ask(shape; arrays.as_ptr; words.as_ptr(), words.len(), question))
 }
@@ -101,7 +101,7 @@ pub fn open() -> Listing {
     unsafe { ffi::concordance_open() }
 }
 
-/// Writes the next page of a listing.
+/// Writes the next page of a listing. The phrase may have no words, and is then listed at every place from 0 to n.
 pub fn list(
     listing: Listing,
     shape: Shape,

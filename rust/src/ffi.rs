@@ -80,7 +80,7 @@ pub struct ListMade {
 impl Question {
     /// The offset runs from -MAX_OFFSET to MAX_OFFSET.
     pub const MAX_OFFSET: i32 = 16;
-    /// A phrase has 1 to MAX_PHRASE words.
+    /// A phrase has up to MAX_PHRASE words.
     pub const MAX_PHRASE: usize = 16;
 
     const NONE: Question = Question { kind: 0, w: 0, v: 0, d: 0, p: 0, start: 0, length: 0 };
@@ -105,7 +105,8 @@ impl Question {
         Question { kind: 4, w, v, d, ..Question::NONE }
     }
 
-    /// Kind 5: how often the phrase in this part of the lent words stands.
+    /// Kind 5: how often the phrase in this part of the lent words stands. The phrase of no words, length 0, stands at every place from 0 to n,
+    /// and its part may start at the end of the lent words, but not past it.
     pub fn phrase(start: usize, length: usize) -> Question {
         Question { kind: 5, start, length, ..Question::NONE }
     }

@@ -138,21 +138,21 @@ impl Index {
         Ok(answers.chunks(2).map(|pair| Refusal::from_number(pair[0]).map_or(Ok(pair[1]), Err)).collect())
     }
 
-    /// How often a phrase stands in the text.
+    /// How often a phrase stands in the text. The phrase of no words stands at every place from 0 to n: n + 1 times.
     pub fn count(&self, phrase: &[u32]) -> Result<usize, Refused> {
         self.ask(phrase, Question::phrase(0, phrase.len()))
     }
 
     /// So many ranks of the text from a place on.
     pub fn passage(&self, place: usize, length: usize) -> Result<Vec<u32>, Refused> {
-        let mut ranks = vec![0; length.min(self.one_too_many())];
+        let mut ranks = vec![0; length.min(self.place_count())];
         entries::passage(self.shape, self.arrays.slices(), place, &mut ranks).result()?;
         Ok(ranks)
     }
 
-    /// One element more than the text has words: no passage has so many, and no page can be full with so many. Longer slices have the
-    /// same answers, so none is made.
-    pub(crate) fn one_too_many(&self) -> usize {
+    /// The number of places from 0 to n, which is one more than the text has words: no passage has so many ranks, and no phrase stands more
+    /// often. Longer slices have the same answers, so none is made.
+    pub(crate) fn place_count(&self) -> usize {
         self.words() + 1
     }
 }

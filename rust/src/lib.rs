@@ -18,6 +18,11 @@
 //! [`make_list`] makes the word list of a plain text of up to 65,536 bytes, the most frequent word first, and gives the text's ranks by it. With
 //! the list, [`read_text`] turns a phrase that somebody types into the ranks to ask about.
 //!
+//! # Browsing
+//!
+//! Before anything is typed the phrase has no words: [`read_text`] of an empty text gives it. It stands at every place from 0 to n, so that
+//! [`Index::pages`] lists the places of the text from its beginning, and its last place, n, is the end of the text, where no word follows.
+//!
 //! # Stack
 //!
 //! The engine allocates nothing; its tables lie on the stack of the calling thread. As `bench/stack.c` measures it, [`read_text`] needs 1.5 MB,

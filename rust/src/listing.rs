@@ -22,9 +22,9 @@ pub struct Pages<'a> {
 }
 
 impl Index {
-    /// The pages of the listing of a phrase, each of at most so many lines.
+    /// The pages of the listing of a phrase, each of at most so many lines. Those of the phrase of no words list every place from 0 to n.
     pub fn pages<'a>(&'a self, phrase: &'a [u32], lines: usize) -> Pages<'a> {
-        Pages { index: self, phrase, lines: lines.min(self.one_too_many()), listing: entries::open(), ended: false }
+        Pages { index: self, phrase, lines: lines.min(self.place_count()), listing: entries::open(), ended: false }
     }
 }
 

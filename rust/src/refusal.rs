@@ -77,7 +77,10 @@ impl Refusal {
             }
             Refusal::Index => "the check does not pass",
             Refusal::Kind => "kind outside 1 to 5",
-            Refusal::Phrase => "phrase length outside 1 to 16, or part outside the lent words",
+            Refusal::Phrase => {
+                "phrase length above 16, or part outside the lent words, an empty one that starts past their end \
+                 included"
+            }
             Refusal::AskedRank => "a rank asked about is not below V",
             Refusal::Offset => "offset outside -16 to 16",
             Refusal::Place => "place or ordinal outside its range; a listing's next place above n",

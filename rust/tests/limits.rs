@@ -1,7 +1,7 @@
 //! Each limit of the papers, and one past it.
 mod support;
 use concordance::entries::{self, Measured};
-use concordance::{Arrays, Index, IndexSizes, Listing, Question, Refusal, Refused, Shape};
+use concordance::{Arrays, Index, IndexSizes, Listing, Page, Question, Refusal, Refused, Shape};
 use support::random::Random;
 use support::{inputs, reference};
 
@@ -290,6 +290,8 @@ fn absurd_lengths() {
     assert_eq!(index.passage(usize::MAX, usize::MAX), Err(refused));
     let pages: Vec<_> = index.pages(&[0], usize::MAX).map(|page| page.unwrap().places).collect();
     assert_eq!(pages, [[1, 3]]);
+    let pages: Vec<_> = index.pages(&[], usize::MAX).map(|page| page.unwrap().places).collect();
+    assert_eq!(pages, [[0, 1, 2, 3, 4]]);
 }
 
 /// The numbers 1 to 17 have a row of the table each, 0 is no refusal, and any other number comes back as itself.
@@ -307,7 +309,7 @@ fn refusals() {
     }
 }
 
-/// Offsets of 16 and 17, phrases of 0, 1, 16 and 17 words, pages of no line and of one.
+/// Offsets of 16 and 17, phrases of 0, 1, 16 and 17 words that end at the end of the lent words and past it, pages of no line and of one.
 #[test]
 fn offsets_phrases_and_pages() {
     let text: Vec<u32> = (0..40).collect();
@@ -317,15 +319,76 @@ fn offsets_phrases_and_pages() {
     assert_eq!(refusal(Question::neighbours(16, 0, -16), &[]), Ok(1));
     assert_eq!(refusal(Question::neighbours(0, 17, 17), &[]), Err(10));
     assert_eq!(refusal(Question::neighbours(17, 0, -17), &[]), Err(10));
-    assert_eq!(refusal(Question::phrase(0, 0), &text), Err(8));
+    for (start, lent, answer) in [
+        (0, 40, Ok(41)),
+        (40, 40, Ok(41)),
+        (41, 40, Err(8)),
+        (usize::MAX, 40, Err(8)),
+        (0, 0, Ok(41)),
+        (1, 0, Err(8)),
+        (usize::MAX, 0, Err(8)),
+    ] {
+        assert_eq!(refusal(Question::phrase(start, 0), &text[..lent]), answer, "{start}, {lent}");
+    }
     assert_eq!(refusal(Question::phrase(0, 1), &text), Ok(1));
     assert_eq!(refusal(Question::phrase(24, 16), &text), Ok(1));
     assert_eq!(refusal(Question::phrase(0, 17), &text), Err(8));
     assert_eq!(refusal(Question::phrase(25, 16), &text), Err(8));
-    let none: Vec<_> = index.pages(&text[..1], 0).collect();
-    assert_eq!(none[0].as_ref().unwrap_err().refusal.number(), 12);
+    for phrase in [&text[..1], &[]] {
+        let none: Vec<_> = index.pages(phrase, 0).collect();
+        assert_eq!(none, [Err(Refused { refusal: Refusal::Page, value: 0 })], "{phrase:?}");
+    }
     let one: Vec<_> = index.pages(&text[..1], 1).map(|page| page.unwrap().places).collect();
     assert_eq!(one, [[0]]);
+}
+
+/// The phrase of no words in the empty text, whose one place is 0.
+#[test]
+fn one_place() {
+    let index = Index::build(Shape::for_text(1), &[]).unwrap();
+    assert_eq!(index.count(&[]), Ok(1));
+    for lines in [1, 2, usize::MAX] {
+        let mut pages = index.pages(&[], lines);
+        assert_eq!(pages.next(), Some(Ok(Page { places: vec![0], more: false })), "{lines}");
+        assert_eq!((pages.listing(), pages.next()), (Listing { next: 0, finished: true }, None), "{lines}");
+    }
+    assert_eq!(index.passage(0, 0), Ok(vec![]));
+}
+
+/// The phrase of no words in the longest text: its count, alone and in a sheet, its listing on a page of all places and on one that ends
+/// before the last, and the pages about the end, which never return a next place above it.
+#[test]
+fn most_places() {
+    let index = Index::build(Shape::for_text(1), &vec![0; MAX_WORDS]).expect("the longest text is one");
+    assert_eq!(index.count(&[]), Ok(MAX_WORDS + 1));
+    let sheet = index.answer_sheet(&[0], &[Question::phrase(1, 0), Question::phrase(2, 0)]);
+    assert_eq!(sheet, Ok(vec![Ok(MAX_WORDS as u32 + 1), Err(Refusal::Phrase)]));
+
+    let last = MAX_WORDS as u32;
+    let all = index.pages(&[], usize::MAX).next().unwrap().unwrap();
+    assert!(!all.more && all.places.into_iter().eq(0..=last));
+    let mut pages = index.pages(&[], MAX_WORDS);
+    let first = pages.next().unwrap().unwrap();
+    assert!(first.more && first.places.into_iter().eq(0..last));
+    assert_eq!(pages.listing(), Listing { next: MAX_WORDS, finished: false });
+    assert_eq!(pages.next(), Some(Ok(Page { places: vec![last], more: false })));
+    assert_eq!((pages.listing(), pages.next()), (Listing { next: MAX_WORDS, finished: true }, None));
+
+    for (next, lines) in (MAX_WORDS - 2..=MAX_WORDS).flat_map(|next| (1..=4).map(move |lines| (next, lines))) {
+        let mut ours = [7; 4];
+        let state = Listing { next, finished: false };
+        let page = entries::list(state, index.shape(), index.arrays().slices(), &[], 0, 0, &mut ours[..lines]);
+        let written = lines.min(MAX_WORDS + 1 - next);
+        let more = next + written <= MAX_WORDS;
+        assert_eq!((page.answer, page.more), (reference::accepted(written), more), "{next}, {lines}");
+        let listing = Listing { next: (next + written).min(MAX_WORDS), finished: !more };
+        assert_eq!(page.listing, listing, "{next}, {lines}");
+        let places: Vec<u32> = (next as u32..).take(written).chain([7; 4]).take(4).collect();
+        assert_eq!(ours[..], places, "{next}, {lines}");
+    }
+    let state = Listing { next: MAX_WORDS + 1, finished: false };
+    let page = entries::list(state, index.shape(), index.arrays().slices(), &[], 0, 0, &mut [7]);
+    assert_eq!((page.answer, page.more, page.listing), (reference::refused(11), false, state));
 }
 
 /// A list of so many distinct words, of digits and letters.

@@ -1,6 +1,7 @@
 //! Runs of page calls, refused ones among them, against the reference and against demand 3.
 mod support;
-use concordance::{entries, Arrays, Listing, Question, Shape};
+use concordance::entries::{self, RawPage};
+use concordance::{Arrays, Listing, Page, Question, Shape};
 use support::random::Random;
 use support::{inputs, reference};
 
@@ -14,7 +15,7 @@ struct Call {
 }
 
 /// A page of both, which must be the same; the places written.
-fn page(state: Listing, call: &Call, lines: usize) -> (entries::RawPage, Vec<u32>) {
+fn page(state: Listing, call: &Call, lines: usize) -> (RawPage, Vec<u32>) {
     let mut ours = vec![0x7777_7777; lines];
     let mut theirs = ours.clone();
     let Call { shape, arrays, words, start, length } = call;
@@ -35,23 +36,26 @@ fn bad(random: &mut Random, good: &Call) -> Call {
         start: good.start,
         length: good.length,
     };
+    let past = call.words.len() + 1;
     match random.below(5) {
         0 => call.shape.vocabulary = random.one_of(&[0, reference::MAX_VOCABULARY + 1]),
         1 => call.shape.block = 0,
         2 => call.arrays.blocks[3] += 1,
-        3 => call.length = random.one_of(&[0, 17]),
-        _ => call.words[call.start] = call.shape.vocabulary as u32,
+        3 if call.length > 0 => call.words[call.start] = call.shape.vocabulary as u32,
+        _ => {
+            (call.start, call.length) = random.one_of(&[(call.start, 17), (past, 0), (usize::MAX, 0), (usize::MAX, 1)])
+        }
     }
     call
 }
 
-/// A phrase that stands in the text if it has a word, as the part of some words.
+/// A phrase of up to three words that stands in the text if it has a word, as the part of some words.
 fn good(random: &mut Random) -> (Call, Vec<u32>) {
     let vocabulary = inputs::vocabulary(random);
     let shape = inputs::shape(random, vocabulary);
     let text = inputs::text(random, vocabulary);
     let mut words = vec![random.below(vocabulary) as u32; 2];
-    let length = random.between(1, 3);
+    let length = random.between(0, 3);
     if text.len() >= length && !random.once_in(6) {
         let from = random.below(text.len() - length + 1);
         words.extend(&text[from..from + length]);
@@ -73,7 +77,11 @@ fn run(random: &mut Random) {
     let mut lines_lent = 0;
     for _ in 0..random.below(12) {
         let turned_down = random.once_in(3);
-        let lines = if random.once_in(6) { 0 } else { random.between(1, 4) };
+        let lines = match random.below(12) {
+            0 | 1 => 0,
+            2 => random.between(1, text.len() + 2),
+            _ => random.between(1, 4),
+        };
         let (got, places) =
             if turned_down { page(state, &bad(random, &good), lines) } else { page(state, &good, lines) };
         if turned_down || lines == 0 {
@@ -85,6 +93,7 @@ fn run(random: &mut Random) {
             lines_lent += lines;
             assert_eq!(!got.more, found.len() == all.len());
         }
+        assert!(got.listing.next <= text.len());
         state = got.listing;
     }
     assert_eq!(found, all[..lines_lent.min(all.len())]);
@@ -129,7 +138,115 @@ fn pages_of_any_state() {
     }
 }
 
-/// The pages of the wrapper are the listing.
+/// A call that lists the phrase of no words in a text of so many words: the empty part at the end of two words that are not below V.
+fn no_words(words: usize) -> Call {
+    let shape = Shape { vocabulary: 130, block: 5, per_superblock: 3 };
+    let text: Vec<u32> = (0..words).map(|place| place as u32 % 130).collect();
+    Call { shape, arrays: reference::index(shape, &text), words: vec![130, u32::MAX], start: 2, length: 0 }
+}
+
+/// The page of the phrase of no words that a text of n words has from a state on, and the places on it.
+fn page_of_places(n: usize, state: Listing, lines: usize) -> (RawPage, Vec<u32>) {
+    let refusal = reference::first_of(&[(state.next > n, 11), (lines == 0, 12)]);
+    if refusal != 0 || state.finished {
+        return (RawPage { answer: reference::refused(refusal), more: false, listing: state }, vec![]);
+    }
+    let end = (state.next + lines).min(n + 1);
+    let more = end <= n;
+    let listing = Listing { next: if more { end } else { n }, finished: !more };
+    (
+        RawPage { answer: reference::accepted(end - state.next), more, listing },
+        (state.next as u32..end as u32).collect(),
+    )
+}
+
+/// Pages of the phrase of no words: from every next place up to one past the end, finished or not, and of every number of lines up to one
+/// more than there are places.
+#[test]
+fn pages_of_no_words() {
+    for n in [0, 1, 2, 3, 4, 9] {
+        let call = no_words(n);
+        for next in (0..=n + 1).chain([usize::MAX]) {
+            for state in [false, true].map(|finished| Listing { next, finished }) {
+                for lines in 0..=n + 2 {
+                    assert_eq!(page(state, &call, lines), page_of_places(n, state, lines), "{n}, {state:?}, {lines}");
+                }
+            }
+        }
+    }
+}
+
+/// Whole listings of the phrase of no words, on pages of every size: each place from 0 to n once and as many as are counted, the last page
+/// finished with next n, the page after it empty with the state as it came, and at each place an empty passage.
+#[test]
+fn listings_of_no_words() {
+    for n in [0, 1, 2, 3, 8, 30] {
+        let call = no_words(n);
+        let count = entries::ask(call.shape, call.arrays.slices(), &call.words, Question::phrase(2, 0));
+        assert_eq!(count, reference::accepted(n + 1));
+        for lines in 1..=n + 2 {
+            let pages = (n + 1).div_ceil(lines);
+            let mut state = entries::open();
+            let mut found = Vec::new();
+            for number in 1..=pages {
+                let (got, places) = page(state, &call, lines);
+                let next = (number * lines).min(n);
+                let finished = number == pages;
+                assert_eq!((got.more, got.listing), (!finished, Listing { next, finished }), "{n}, {lines}");
+                found.extend(places);
+                state = got.listing;
+            }
+            assert!(found.iter().map(|&place| place as usize).eq(0..=n), "{n}, {lines}, {found:?}");
+            let after = RawPage { answer: reference::accepted(0), more: false, listing: state };
+            assert_eq!(page(state, &call, lines), (after, vec![]), "{n}, {lines}");
+        }
+        for place in 0..=n {
+            let passage = entries::passage(call.shape, call.arrays.slices(), place, &mut []);
+            assert_eq!(passage, reference::accepted(0), "{n}, {place}");
+        }
+    }
+}
+
+/// Several faults at once in a page of the phrase of no words: the first of 1, 3, 6, 8, 11 and 12 answers, and never 9, although no word that
+/// is lent is below V; the state comes back, and nothing is written.
+#[test]
+fn order_of_refusals() {
+    for (faults, finished) in (0..64).flat_map(|faults| [(faults, false), (faults, true)]) {
+        let [no_vocabulary, no_blocks, damaged, outside, above, no_lines] =
+            [0, 1, 2, 3, 4, 5].map(|fault| faults >> fault & 1 == 1);
+        for (start, length) in [(3, 0), (usize::MAX, 0), (0, 17), (usize::MAX, usize::MAX)] {
+            let mut call = no_words(4);
+            if no_vocabulary {
+                call.shape.vocabulary = reference::MAX_VOCABULARY + 1;
+            }
+            if no_blocks {
+                call.shape.per_superblock = 0;
+            }
+            call.arrays.blocks[0] += u16::from(damaged);
+            if outside {
+                (call.start, call.length) = (start, length);
+            }
+            let state = Listing { next: if above { 5 } else { 3 }, finished };
+            let (got, places) = page(state, &call, if no_lines { 0 } else { 3 });
+            let refusal = reference::first_of(&[
+                (no_vocabulary, 1),
+                (no_blocks, 3),
+                (damaged, 6),
+                (outside, 8),
+                (above, 11),
+                (no_lines, 12),
+            ]);
+            assert_eq!(got.answer.refusal, refusal, "{faults:06b}, {start}, {length}");
+            if refusal != 0 {
+                assert_eq!((got.answer.value, got.more, got.listing), (0, false, state), "{faults:06b}");
+            } else {
+                assert_eq!(places, if finished { vec![] } else { vec![3, 4] }, "{faults:06b}");
+            }
+        }
+    }
+}
+
+/// The pages of the wrapper are the listing; there are not more of them than places.
 #[test]
 fn wrapped_pages() {
     let mut random = Random::of("wrapped_pages");
@@ -138,11 +255,28 @@ fn wrapped_pages() {
         let index = concordance::Index::build(call.shape, &text).expect("the text is one");
         let phrase = &call.words[call.start..];
         let lines = random.between(1, 4);
-        let pages: Vec<_> = index.pages(phrase, lines).map(|page| page.expect("the phrase is one")).collect();
+        let pages = index.pages(phrase, lines).map(|page| page.expect("the phrase is one"));
+        let pages: Vec<_> = pages.take(text.len() + 2).collect();
         let places: Vec<usize> = pages.iter().flat_map(|page| &page.places).map(|&place| place as usize).collect();
         assert_eq!(places, reference::places(&text, phrase));
         assert_eq!(index.count(phrase), Ok(places.len()));
         assert!(pages.iter().rev().skip(1).all(|page| page.more && page.places.len() == lines));
         assert!(!pages.last().expect("there is a first page").more);
+    }
+}
+
+/// Before anything is typed: the phrase that is read of a text without words is counted and listed at every place.
+#[test]
+fn nothing_typed() {
+    let made = concordance::make_list(b"Tock, tick! TICK.").expect("the text is short");
+    let index = concordance::Index::build(Shape::for_text(made.vocabulary()), &made.ranks).expect("the text is one");
+    for typed in [&b""[..], b" ,\n"] {
+        let phrase = concordance::read_text(&made.list, typed).expect("no word is unlisted");
+        assert_eq!(index.count(&phrase), Ok(4));
+        let mut pages = index.pages(&phrase, 3);
+        assert_eq!(pages.next(), Some(Ok(Page { places: vec![0, 1, 2], more: true })));
+        assert_eq!(pages.next(), Some(Ok(Page { places: vec![3], more: false })));
+        assert_eq!((pages.listing(), pages.next()), (Listing { next: 3, finished: true }, None));
+        assert_eq!(index.passage(3, phrase.len()), Ok(vec![]));
     }
 }

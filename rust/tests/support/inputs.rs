@@ -265,12 +265,16 @@ fn asked(random: &mut Random, vocabulary: usize, text: &[u32]) -> u32 {
     }
 }
 
-/// A part of the lent words, inside or not.
+/// A part of the lent words, inside or not; now and then one of no words that starts at any of them, at their end, one past it or far beyond.
 pub fn part(random: &mut Random, words: &[u32]) -> (usize, usize) {
-    match random.below(8) {
+    match random.below(10) {
         0 => (random.one_of(&[usize::MAX, words.len() + 1]), random.one_of(&[0, 1, usize::MAX])),
         1 => (random.below(words.len() + 1), random.one_of(&[0, 17, usize::MAX])),
         2 => (words.len(), random.below(3)),
+        3 => {
+            let near = random.below(words.len() + 2);
+            (random.one_of(&[near, near, near, 1 << 32, usize::MAX]), 0)
+        }
         _ => {
             let start = random.below(words.len() + 1);
             (start, random.between(0, (words.len() - start + 1).min(18)))

@@ -17,6 +17,11 @@ pub fn refused(refusal: u32) -> Answer {
     Answer { refusal, value: 0 }
 }
 
+/// The number of the first fault that is there, in the order in which they are tried; 0 where none is.
+pub fn first_of(faults: &[(bool, u32)]) -> u32 {
+    faults.iter().find(|(there, _)| *there).map_or(0, |&(_, refusal)| refusal)
+}
+
 fn vocabulary_fits(vocabulary: usize) -> bool {
     (1..=MAX_VOCABULARY).contains(&vocabulary)
 }
@@ -293,7 +298,7 @@ pub fn check(shape: Shape, arrays: &Arrays) -> Answer {
 /// The phrase in a part of the lent words; 8 or 9 where it is none.
 fn phrase(vocabulary: usize, words: &[u32], start: usize, length: usize) -> Result<&[u32], Answer> {
     let inside = start <= words.len() && length <= words.len() - start;
-    if !(1..=16).contains(&length) || !inside {
+    if length > 16 || !inside {
         return Err(refused(8));
     }
     let phrase = &words[start..start + length];
@@ -303,7 +308,7 @@ fn phrase(vocabulary: usize, words: &[u32], start: usize, length: usize) -> Resu
     Ok(phrase)
 }
 
-/// All places at which a phrase stands.
+/// All places at which a phrase stands: every place, n too, where it has no words.
 pub fn places(text: &[u32], phrase: &[u32]) -> Vec<usize> {
     (0..=text.len()).filter(|&q| text[q..].starts_with(phrase)).collect()
 }
