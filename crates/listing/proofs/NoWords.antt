@@ -70,4 +70,7 @@ module _ (call : Call) (state : Listing) (taken : isAccepted (pageAnswer call st
       ∙ rw (length-range (state .next) (suc n - state .next))
 
 pub no-words-listed : NoWordsListed
-no-words-listed call state taken none goes = record { full = full call state taken none goes; last = last call state taken none goes }
+no-words-listed call state taken none goes = record {
+  full = λ h. full call state taken none goes (omega (arith, h));
+  last = λ h. last call state taken none goes (omega (arith, h));
+}
