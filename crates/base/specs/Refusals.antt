@@ -69,3 +69,7 @@ refusalSizes = 16
 -- a plain text has more bytes, or more distinct words, than a word list is made of
 abbrev pub refusalListMaking : ℕ
 refusalListMaking = 17
+
+-- a letter table breaks a rule
+abbrev pub refusalTable : ℕ
+refusalTable = 18

@@ -51,3 +51,6 @@ pub const SIZES: u32 = 16;
 
 // A plain text has more bytes, or more distinct words, than a word list is made of.
 pub const LIST_MAKING: u32 = 17;
+
+// A letter table breaks a rule.
+pub const TABLE: u32 = 18;

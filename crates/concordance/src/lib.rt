@@ -15,6 +15,8 @@ ghost use Rattle.listing.specs.Paging.{opened, callOf, pageOf};
 ghost use Rattle.lexicon.specs.Letters.{letters};
 ghost use Rattle.lexicon.specs.Reading.{readTextAnswer, readTextExit};
 ghost use Rattle.list_calls.specs.Making.{listMade, makeListExit, makeRanksExit};
+ghost use Rattle.lexicon.specs.Tables.{tableAnswer};
+ghost use Rattle.lent_tables.specs.Calls.{readTextWithAnswer, readTextWithExit, listMadeWith, makeListWithExit, makeRanksWithExit};
 ghost use Rattle.sheets.specs.Sheets.{sheetAnswer, sheetExit};
 use base::Answer;
 use index::Shape;
@@ -255,4 +257,43 @@ pub extern "C" fn concordance_make_list(text: &[u8], list: &mut [u8], ranks: &mu
     ensures { λ r. ⌜ (r ≡ listMade letters (now (text .entry)) (now (list .entry)) (now (ranks .entry))) × (now (list .exit) ≡ makeListExit letters (now (text .entry)) (now (list .entry)) (now (ranks .entry))) × (now (ranks .exit) ≡ makeRanksExit letters (now (text .entry)) (now (list .entry)) (now (ranks .entry))) ⌝ }
 {
     list_making::make_list(text, list, ranks)
+}
+
+// Checks a letter table: 0 is answered exactly if it keeps the rules. Refusal 18.
+#[no_mangle]
+pub extern "C" fn concordance_check_letters(table: &[u8]) -> Answer
+    ensures { λ r. ⌜ r ≡ tableAnswer (now (table .entry)) ⌝ }
+{
+    lexicon::check_table(table)
+}
+
+// Reads a plain text through a word list into the front of a slice: the rank of each word, folded by
+// the lent table. It answers the number of words. Refusals 18, then 1, 2, 5, 13, and 14 with the
+// byte offset of the first word that is not in the list, all by the lent table, leave the slice as it
+// was.
+#[no_mangle]
+pub extern "C" fn concordance_read_text_with(
+    table: &[u8],
+    list: &[u8],
+    text: &[u8],
+    ranks: &mut [u32],
+) -> Answer
+    ensures { λ r. ⌜ (r ≡ readTextWithAnswer (now (table .entry)) (now (list .entry)) (now (text .entry)) (now (ranks .entry))) × (now (ranks .exit) ≡ readTextWithExit (now (table .entry)) (now (list .entry)) (now (text .entry)) (now (ranks .entry))) ⌝ }
+{
+    lent_tables::read_text_with(table, list, text, ranks)
+}
+
+// Makes a word list of a plain text, whose words are folded by the lent table: the list to the front
+// of one slice, and the rank of each word of the text to the front of the other. It gives how many
+// elements of each it has written. Refusals 18, then 2, 17 and 5, leave both slices as they were.
+#[no_mangle]
+pub extern "C" fn concordance_make_list_with(
+    table: &[u8],
+    text: &[u8],
+    list: &mut [u8],
+    ranks: &mut [u32],
+) -> ListMade
+    ensures { λ r. ⌜ (r ≡ listMadeWith (now (table .entry)) (now (text .entry)) (now (list .entry)) (now (ranks .entry))) × (now (list .exit) ≡ makeListWithExit (now (table .entry)) (now (text .entry)) (now (list .entry)) (now (ranks .entry))) × (now (ranks .exit) ≡ makeRanksWithExit (now (table .entry)) (now (text .entry)) (now (list .entry)) (now (ranks .entry))) ⌝ }
+{
+    lent_tables::make_list_with(table, text, list, ranks)
 }

@@ -1,4 +1,6 @@
+pub mod Entries
 pub mod Tables
+pub mod Ranges
 pub mod Samples
 pub mod Members
 pub mod WordLists

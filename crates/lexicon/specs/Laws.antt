@@ -1,4 +1,4 @@
--- Statements: which words a plain text has, and what reading it through a word list gives; over every table that keeps the rule.
+-- Statements: which words a plain text has, and what reading it through a word list gives; over every table that keeps the rules.
 use Prim.Native.Nat.{ℕ, suc, _+_, _≤_, _<_}
 use mathlib.Core.Path.{_≡_}
 use mathlib.Core.Bool.{true, false, not}
@@ -59,7 +59,7 @@ pub record Accepts (table list text z : List ℕ) : Type 0 where
 unfoldable pub unlistedPlace : List ℕ → List ℕ → List ℕ → ℕ
 unlistedPlace table list text = firstWhere (λ w. not (isListed list w)) (textWords table text)
 
--- Statement: reading a plain text through a word list, with a table that keeps the rule.
+-- Statement: reading a plain text through a word list, with a table that keeps the rules.
 pub record ReadTextExact (table : List ℕ) : Type 0 where
   pub words : (text : List ℕ) → LongestRuns table text
   -- each word of a text is spelled as the words of a list are
@@ -87,6 +87,6 @@ pub record ReadTextExact (table : List ℕ) : Type 0 where
   pub sameLength : (list text z : List ℕ) → length (readTextExit table list text z) ≡ length z
   pub untouched : (list text z : List ℕ) → (readTextAnswer table list text z .refusal ≡ 0 → ⊥) → readTextExit table list text z ≡ z
 
--- Statement: for every table that keeps the rule, so for the letter table.
+-- Statement: for every table that keeps the rules, so for the letter table.
 abbrev pub ReadingOfTables : Type 0
 ReadingOfTables = (table : List ℕ) → isTable table ≡ true → ReadTextExact table

@@ -1,4 +1,4 @@
--- The letter table over ISO 8859-1, and the rule of a table.
+-- The letter table over ISO 8859-1, and the rules of a table.
 use Prim.Native.Nat.{ℕ, _+_}
 use mathlib.Core.Path.{_≡_}
 use mathlib.Core.Bool.{Bool, true, cond, not, _&&_, _||_}
@@ -37,10 +37,23 @@ keeps table x = eqb (letterIn table x) x
 abbrev pub lineFeed : ℕ
 lineFeed = 0x0A
 
--- the rule of a table: it has 256 entries, each 0 or a byte that the table keeps; and the byte that closes the words of a list is a separator
-unfoldable pub isTable : List ℕ → Bool
-isTable table = eqb (length table) 256 && allPass (λ x. eqb x 0 || keeps table x) table && eqb (letterIn table lineFeed) 0
+-- whether an entry is 0 or a byte that the table keeps
+unfoldable pub isEntry : List ℕ → ℕ → Bool
+isEntry table x = eqb x 0 || keeps table x
 
--- Statement: the letter table follows the rule.
+-- whether each entry of a table is so
+unfoldable pub keepsEntries : List ℕ → Bool
+keepsEntries table = allPass (isEntry table) table
+
+-- whether some entry of a table is not 0
+unfoldable pub hasLetter : List ℕ → Bool
+hasLetter table = not (allPass (λ x. eqb x 0) table)
+
+-- the rules of a table: it has 256 entries; each is 0 or a byte that the table keeps; entry 0A is 0, so that the byte that closes the words of a
+-- list is a separator; some entry is not 0
+unfoldable pub isTable : List ℕ → Bool
+isTable table = eqb (length table) 256 && keepsEntries table && eqb (letterIn table lineFeed) 0 && hasLetter table
+
+-- Statement: the letter table keeps the rules.
 abbrev pub LettersRule : Type 0
 LettersRule = isTable letters ≡ true

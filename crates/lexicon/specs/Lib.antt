@@ -1,4 +1,5 @@
 pub mod Letters
+pub mod Tables
 pub mod Lexicon
 pub mod Reading
 pub mod Laws

@@ -1,6 +1,12 @@
-// What plain text, its letters and its word list are (specs), and the letter table over ISO 8859-1.
+// What plain text, its letters and its word list are (specs), the letter table over ISO 8859-1, and
+// the check of a table that is lent.
 ghost use mathlib.Core.Path.{_≡_};
-ghost use Rattle.lexicon.specs.Letters.{letterOf};
+ghost use mathlib.Core.Bool.{_&&_};
+ghost use lib.ListN.{length};
+ghost use Rattle.lexicon.specs.Letters.{letters, isEntry, keepsEntries, hasLetter, isTable};
+ghost use Rattle.lexicon.specs.Tables.{tableAnswer};
+use base::Answer;
+use base::refusal;
 
 // The letter table: what each byte folds to, 0 for a separator.
 pub const LETTERS: [u8; 256] = [
@@ -262,9 +268,62 @@ pub const LETTERS: [u8; 256] = [
     255,
 ];
 
-// What the letter table folds a byte to, 0 for a separator.
-pub fn letter(b: u8) -> u8
-    ensures { λ r. ⌜ r ≡ letterOf b ⌝ }
+// The letter table.
+pub fn letter_table() -> [u8; 256]
+    ensures { λ r. ⌜ r ≡ letters ⌝ }
 {
-    LETTERS[b as usize]
+    LETTERS
+}
+
+// Whether an entry is 0 or a byte that a table of 256 entries keeps.
+fn is_entry(table: &[u8], x: u8) -> bool
+    requires { ⌜ length (now table) ≡ 256 ⌝ }
+    ensures { λ r. ⌜ r ≡ isEntry (now (table .entry)) x ⌝ }
+{
+    if x == 0 {
+        return true;
+    }
+    table[x as usize] == x
+}
+
+// Whether each of the 256 entries of a table is 0 or a byte that the table keeps, and some entry is
+// not 0: one pass over them.
+fn entries_pass(table: &[u8]) -> bool
+    requires { ⌜ length (now table) ≡ 256 ⌝ }
+    ensures { λ r. ⌜ r ≡ keepsEntries (now (table .entry)) && hasLetter (now (table .entry)) ⌝ }
+{
+    let mut some = false;
+    let mut i: usize = 0;
+    while i < 256 {
+        let x = table[i];
+        if !is_entry(table, x) {
+            return false;
+        }
+        some = some | (x != 0);
+        i += 1;
+    }
+    some
+}
+
+// Whether a slice of any length is a letter table that keeps the rules.
+pub fn is_table(table: &[u8]) -> bool
+    ensures { λ r. ⌜ r ≡ isTable (now (table .entry)) ⌝ }
+{
+    if table.len() != 256 {
+        return false;
+    }
+    if table[10] != 0 {
+        return false;
+    }
+    entries_pass(table)
+}
+
+// Checks a letter table that somebody brings: 0 is answered exactly if it keeps the rules. Refusal 18.
+pub fn check_table(table: &[u8]) -> Answer
+    ensures { λ r. ⌜ r ≡ tableAnswer (now (table .entry)) ⌝ }
+{
+    if !is_table(table) {
+        return Answer::refused(refusal::TABLE);
+    }
+    Answer::accepted(0)
 }

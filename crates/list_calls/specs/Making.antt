@@ -51,14 +51,18 @@ unfoldable pub makeListAnswer : List ℕ → List ℕ → List ℕ → List ℕ 
 makeListAnswer table text y z =
     firstOf (wordsCase (length (textWords table text)) ∷ listMakingCase table text ∷ listRoomCase table text y z ∷ []) (accepted 0)
 
--- all that it returns: a number for each slice filled, two zeros beside a refusal
-unfoldable pub listMade : List ℕ → List ℕ → List ℕ → List ℕ → ListMade
-listMade table text y z =
+-- all that a call with this answer returns: a number for each slice filled, two zeros beside a refusal
+abbrev pub listMadeBy : List ℕ → List ℕ → Answer → ListMade
+listMadeBy table text answer =
     record {
-      answer = makeListAnswer table text y z;
-      bytes = cond (isAccepted (makeListAnswer table text y z)) (length (madeList table text)) 0;
-      words = cond (isAccepted (makeListAnswer table text y z)) (length (textWords table text)) 0;
+      answer = answer;
+      bytes = cond (isAccepted answer) (length (madeList table text)) 0;
+      words = cond (isAccepted answer) (length (textWords table text)) 0;
     }
+
+-- all that the call that makes a word list returns
+unfoldable pub listMade : List ℕ → List ℕ → List ℕ → List ℕ → ListMade
+listMade table text y z = listMadeBy table text (makeListAnswer table text y z)
 
 -- what the slice for the list holds then: the list in front, the rest as it was
 unfoldable pub makeListExit : List ℕ → List ℕ → List ℕ → List ℕ → List ℕ

@@ -39,7 +39,7 @@ fn make_of_short(table: &[u8], text: &[u8], list: &mut [u8], ranks: &mut [u32]) 
     )
 }
 
-// Makes a word list of a plain text with a table that keeps the rule: all that is returned and written
+// Makes a word list of a plain text with a table that keeps the rules: all that is returned and written
 // is as paper 02 says.
 pub fn make_list_by(table: &[u8], text: &[u8], list: &mut [u8], ranks: &mut [u32]) -> ListMade
     requires { ⌜ isTable (now table) ≡ true ⌝ }

@@ -1,5 +1,5 @@
 -- Statements: what the word list that is made of a plain text is, and what the call that makes it returns and writes; over every table that keeps
--- the rule.
+-- the rules.
 use Prim.Native.Nat.{ℕ, _≤_, _<_}
 use mathlib.Core.Path.{_≡_}
 use mathlib.Core.Logic.{_⊎_, _↔_}
@@ -83,7 +83,7 @@ pub record MakingExact (table text y z : List ℕ) : Type 0 where
       × (take (listMade table text y z .words) (readTextExit table (take (listMade table text y z .bytes) (makeListExit table text y z)) text q)
       ≡ take (listMade table text y z .words) (makeRanksExit table text y z))
 
--- Statement: for every table that keeps the rule, and every text.
+-- Statement: for every table that keeps the rules, and every text.
 abbrev pub MadeOfTables : Type 0
 MadeOfTables = (table text : List ℕ) → isTable table ≡ true → MadeExact table text
 

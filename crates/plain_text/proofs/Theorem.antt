@@ -199,7 +199,7 @@ module _ (table text : List ℕ) where
           seps p h a (inl l) = between 0 p (omega arith) l
           seps p h a (inr l) = separators-from (length (wordsAt table text (startFrom table text 0))) (startFrom table text 0) refl b p l h a
 
--- ---- every table that keeps the rule
+-- ---- every table that keeps the rules
 
 module _ (table : List ℕ) (rule : isTable table ≡ true) where
   -- a letter is one that the table keeps

@@ -19,7 +19,7 @@ unfoldable pub sizesAnswer : ℕ → ℕ → ℕ → Answer
 sizesAnswer words size room =
     firstOf (vocabularyCase 128 words ∷ wordsCase size ∷ (ltb room size ⇒ refused refusalShortSlice) ∷ []) (accepted size)
 
--- a call whose sizes no test refuses, with a table that keeps the rule, and a list whose words are written as they must be
+-- a call whose sizes no test refuses, with a table that keeps the rules, and a list whose words are written as they must be
 pub record Sized (table list : List ℕ) (words : ℕ) (text : List ℕ) (size : ℕ) (z : List ℕ) : Type 0 where
   pub rule : isTable table ≡ true
   pub all : words ≡ listSize list

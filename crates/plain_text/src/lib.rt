@@ -77,7 +77,7 @@ fn read_by_written(
     Answer::accepted(size)
 }
 
-// Reads a plain text through a word list with a table that keeps the rule: the answer and the slice
+// Reads a plain text through a word list with a table that keeps the rules: the answer and the slice
 // are those of paper 01.
 pub fn read_text_by(table: &[u8], list: &[u8], text: &[u8], ranks: &mut [u32]) -> Answer
     requires { ⌜ isTable (now table) ≡ true ⌝ }

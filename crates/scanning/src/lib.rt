@@ -1,5 +1,5 @@
 // Going through a text byte by byte: where its words begin and end, how many there are, and whether two
-// are spelled alike; with every letter table that keeps the rule.
+// are spelled alike; with every letter table that keeps the rules.
 ghost use mathlib.Core.Path.{_≡_};
 ghost use mathlib.Core.Bool.{true};
 ghost use Prim.Native.Nat.{_+_, _≤_};

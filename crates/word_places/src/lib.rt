@@ -1,5 +1,5 @@
 // The places of the words of a text: where each word begins, the place at which it appears first, and
-// how often it stands; with every letter table that keeps the rule.
+// how often it stands; with every letter table that keeps the rules.
 ghost use mathlib.Core.Path.{_≡_};
 ghost use mathlib.Core.Bool.{true, cond};
 ghost use Prim.Native.Nat.{suc, _-_, _≤_, _<_};

@@ -1,4 +1,4 @@
--- `list_making::make_list` meets its contract: the letter table keeps the rule. Assumes nothing.
+-- `list_making::make_list` meets its contract: the letter table keeps the rules. Assumes nothing.
 use borrow.Author.Needs.{needs}
 use Rattle.base.specs.Texts.{outside}
 use Rattle.lexicon.proofs.Tables.{letters-rule}

@@ -1,4 +1,4 @@
--- `plain_text::read_text` meets its contract: the constant is the letter table, which keeps the rule. Assumes nothing.
+-- `plain_text::read_text` meets its contract: the constant is the letter table, which keeps the rules. Assumes nothing.
 use borrow.Author.Needs.{needs}
 use Rattle.base.specs.Texts.{outside}
 use Rattle.lexicon.proofs.Tables.{letters-rule}
