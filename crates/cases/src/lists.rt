@@ -1,20 +1,17 @@
 // The calls that make a word list of plain text.
-use crate::given;
-use crate::given::Numbers;
+use given::Numbers;
 
 // Makes a word list of a text in two slices, and prints what came of it and the first 20 elements of
 // each.
 fn make(text: &[u8], list: &mut [u8], ranks: &mut [u32]) {
     let made = list_making::make_list(text, list, ranks);
-    printing::answered(made.answer);
-    printing::words(b", bytes ");
-    printing::number(made.bytes);
-    printing::words(b", words ");
-    printing::number(made.words);
-    printing::words(b":");
-    printing::bytes(small_indexes::front_bytes(list, 20));
-    printing::words(b";");
-    printing::ranks(small_indexes::front(ranks, 20));
+    printing::answered_with_list(
+        made.answer,
+        made.bytes,
+        made.words,
+        small_indexes::front_bytes(list, 20),
+        small_indexes::front(ranks, 20),
+    );
 }
 
 // Makes a word list of a text in slices of so many bytes and ranks, at most 65,537 and 32,768.

@@ -29,30 +29,12 @@
 // Slices that are filled held nothing but 7 before, those of lines, of word lists and of ranks read
 // from plain text nothing but 9. Of a word list that is made and of its ranks the first 20 elements
 // are printed.
-mod given;
 mod lists;
 mod shown;
 mod state;
 
-ghost use Prim.Native.Nat.{_≤_};
-ghost use lib.ListN.{length};
 use libc::STDIN_FILENO;
 use state::State;
-
-// Where the line ends that begins at a position: at the next 0A, or at the end of the input.
-fn line_end(input: &[u8], from: usize) -> usize
-    requires { ⌜ from ≤ length (now input) ⌝ }
-    ensures { λ r. ⌜ (from ≤ r) × (r ≤ length (now (input .entry))) ⌝ }
-{
-    let mut at = from;
-    while at < input.len() {
-        if input[at] == b'\n' {
-            return at;
-        }
-        at += 1;
-    }
-    at
-}
 
 // Runs the case of a line.
 fn run_line(state: State, line: &[u8]) -> State {
@@ -70,7 +52,7 @@ fn run(input: &[u8]) {
     let mut state = State::first();
     let mut at: usize = 0;
     while at < input.len() {
-        let end = line_end(input, at);
+        let end = given::line_end(input, at);
         state = run_line(state, &input[at..end]);
         at = end + 1;
     }

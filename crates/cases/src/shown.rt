@@ -1,7 +1,6 @@
 // The calls that leave the state as it is.
-use crate::given;
-use crate::given::Numbers;
 use crate::state::State;
+use given::Numbers;
 use measuring::IndexSizes;
 use questions::Question;
 use small_indexes::shape_of;

@@ -1,7 +1,6 @@
 // What the lines of the cases build up: the index, the lent words, the state of the listing, and the
 // word list.
-use crate::given;
-use crate::given::Numbers;
+use given::Numbers;
 use listing::Listing;
 use small_indexes::SmallIndex;
 use small_indexes::shape_of;

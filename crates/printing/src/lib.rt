@@ -75,3 +75,17 @@ pub fn answered_with_ranks(a: Answer, s: &[u32]) {
     words(b":");
     ranks(s);
 }
+
+// Writes what came of making a word list behind what was asked: the answer, how many bytes and ranks
+// were written, and what the two slices hold then.
+pub fn answered_with_list(a: Answer, size: usize, count: usize, list: &[u8], text: &[u32]) {
+    answered(a);
+    words(b", bytes ");
+    number(size);
+    words(b", words ");
+    number(count);
+    words(b":");
+    bytes(list);
+    words(b";");
+    ranks(text);
+}

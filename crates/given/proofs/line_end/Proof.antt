@@ -1,9 +1,9 @@
--- `cases::line_end` meets its contract. Assumes nothing.
+-- `given::line_end` meets its contract. Assumes nothing.
 use Prim.Native.Nat.{_≤_, _-_}
 use lib.ListN.{length}
 use borrow.Author.Needs.{needs}
-use Rattle.cases.proofs.line_end.Statement.{statement}
-use Rattle.cases.proofs.line_end.Tie as tie
+use Rattle.given.proofs.line_end.Statement.{statement}
+use Rattle.given.proofs.line_end.Tie as tie
 
 abbrev Inv-loop : tie.InvT-loop
 Inv-loop input from at₀ at = (from ≤ at) × (at ≤ length input)

@@ -1,4 +1,6 @@
-// What a line gives: its numbers, and bytes that are spelled out.
+// What a line of the programs that run cases gives: its numbers, and bytes that are spelled out.
+ghost use Prim.Native.Nat.{_≤_};
+ghost use lib.ListN.{length};
 
 // The most numbers of a line.
 pub const MOST: usize = 32;
@@ -263,4 +265,19 @@ pub fn spelled_by(line: &[u8], blanks: usize) -> Spelled {
         i += 1;
     }
     all
+}
+
+// Where the line ends that begins at a position: at the next 0A, or at the end of the input.
+pub fn line_end(input: &[u8], from: usize) -> usize
+    requires { ⌜ from ≤ length (now input) ⌝ }
+    ensures { λ r. ⌜ (from ≤ r) × (r ≤ length (now (input .entry))) ⌝ }
+{
+    let mut at = from;
+    while at < input.len() {
+        if input[at] == b'\n' {
+            return at;
+        }
+        at += 1;
+    }
+    at
 }

@@ -1,4 +1,4 @@
--- `cases::given::leftwards` is safe: the negation of a byte fits. Assumes nothing.
+-- `given::leftwards` is safe: the negation of a byte fits. Assumes nothing.
 use Prim.Native.Nat.{ℕ, zero, suc, _<_}
 use mathlib.Core.Path.{_≡_}
 use native.Mathlib.Omega.{arith}
@@ -7,8 +7,8 @@ use mir.Val.{SFits, toZ}
 use mir.Facts.{sfits-lit, toZ-pos}
 use borrow.Author.Needs.{needs}
 use lib.IntN.{pos, negℤ, +ℤ-idl}
-use Rattle.cases.proofs.given.leftwards.Statement.{statement}
-use Rattle.cases.proofs.given.leftwards.Tie as tie
+use Rattle.given.proofs.leftwards.Statement.{statement}
+use Rattle.given.proofs.leftwards.Tie as tie
 
 -- the negation of a small number fits
 negation-fits : (n : ℕ) → n < 256 → SFits w32 (negℤ (pos n))

@@ -1,9 +1,9 @@
--- `cases::given::numbers_of` meets its contract: it stays inside the slice and ends. Assumes nothing.
+-- `given::numbers_of` meets its contract: it stays inside the slice and ends. Assumes nothing.
 use Prim.Native.Nat.{_≤_, _-_}
 use lib.ListN.{length}
 use borrow.Author.Needs.{needs}
-use Rattle.cases.proofs.given.numbers_of.Statement.{statement}
-use Rattle.cases.proofs.given.numbers_of.Tie as tie
+use Rattle.given.proofs.numbers_of.Statement.{statement}
+use Rattle.given.proofs.numbers_of.Tie as tie
 
 abbrev Inv-loop : tie.InvT-loop
 Inv-loop line all₀ i₀ all i = i ≤ length line

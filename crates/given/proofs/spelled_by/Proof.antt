@@ -1,9 +1,9 @@
--- `cases::given::spelled_by` meets its contract: it stays inside the slice and ends. Assumes nothing.
+-- `given::spelled_by` meets its contract: it stays inside the slice and ends. Assumes nothing.
 use Prim.Native.Nat.{_≤_, _-_}
 use lib.ListN.{length}
 use borrow.Author.Needs.{needs}
-use Rattle.cases.proofs.given.spelled_by.Statement.{statement}
-use Rattle.cases.proofs.given.spelled_by.Tie as tie
+use Rattle.given.proofs.spelled_by.Statement.{statement}
+use Rattle.given.proofs.spelled_by.Tie as tie
 
 abbrev Inv-loop : tie.InvT-loop
 Inv-loop line blanks all₀ seen₀ i₀ all seen i = i ≤ length line

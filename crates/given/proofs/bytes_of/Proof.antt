@@ -1,8 +1,8 @@
--- `cases::given::bytes_of` ends. Assumes nothing.
+-- `given::bytes_of` ends. Assumes nothing.
 use Prim.Native.Nat.{_≤_, _-_}
 use borrow.Author.Needs.{needs}
-use Rattle.cases.proofs.given.bytes_of.Statement.{statement}
-use Rattle.cases.proofs.given.bytes_of.Tie as tie
+use Rattle.given.proofs.bytes_of.Statement.{statement}
+use Rattle.given.proofs.bytes_of.Tie as tie
 
 abbrev Inv-loop : tie.InvT-loop
 Inv-loop numbers from all₀ i₀ all i = i₀ ≤ i
