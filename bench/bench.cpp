@@ -199,7 +199,15 @@ static void passages(const Engine &engine, const std::vector<uint32_t> &text) {
     table.add(engine.a.lengths[0], "a passage of 10,000 words", time.one, "twin", time.other);
 }
 
-// Reading a stream and a plain text, the stream beside a plain loop over its bytes.
+// A lent copy of the built-in letter table.
+static const std::vector<uint8_t> letters = [] {
+    std::vector<uint8_t> table(256);
+    fill_letters(table.data());
+    return table;
+}();
+
+// Reading a stream and a plain text, the stream beside a plain loop over its bytes, the plain text beside the twin, and by a lent letter table
+// beside the built-in one.
 static void reading(const std::vector<uint32_t> &text) {
     std::vector<uint8_t> stream(text.size() * 3);
     const size_t size = concordance_write_stream(vocabulary, text.data(), text.size(), stream.data(), stream.size()).value;
@@ -222,20 +230,29 @@ static void reading(const std::vector<uint32_t> &text) {
     for (uint32_t word : text) plain += spelling(word) + ' ';
     std::fill(ours.begin(), ours.end(), 0);
     std::fill(theirs.begin(), theirs.end(), 0);
-    const Both read = in_turn(
-        runs,
-        [&] {
-            const auto answer = concordance_read_text((const uint8_t *)list.data(), list.size(), (const uint8_t *)plain.data(), plain.size(),
-                                                      ours.data(), ours.size());
-            must(answer.refusal == 0 && answer.value == text.size(), "plain text");
-        },
-        [&] { must(twin::read_text(list, plain, theirs), "plain text"); });
+    const auto by_built_in = [&] {
+        const auto answer = concordance_read_text((const uint8_t *)list.data(), list.size(), (const uint8_t *)plain.data(), plain.size(),
+                                                  ours.data(), ours.size());
+        must(answer.refusal == 0 && answer.value == text.size(), "plain text");
+    };
+    const Both read = in_turn(runs, by_built_in, [&] { must(twin::read_text(list, plain, theirs), "plain text"); });
     must(ours == text && theirs == text, "plain text");
     table.add(text.size(), "reading plain text", read.one, "twin", read.other);
+    const auto by_lent = [&] {
+        const auto answer = concordance_read_text_with(letters.data(), letters.size(), (const uint8_t *)list.data(), list.size(),
+                                                       (const uint8_t *)plain.data(), plain.size(), ours.data(), ours.size());
+        must(answer.refusal == 0 && answer.value == text.size(), "plain text by a lent table");
+    };
+    std::fill(ours.begin(), ours.end(), 0);
+    by_lent();
+    must(ours == text, "plain text by a lent table");
+    const Both lent = in_turn(runs, by_lent, by_built_in);
+    table.add(text.size(), "reading plain text by a lent letter table", lent.one, "the built-in table", lent.other);
     std::printf("reading plain text of %zu words, %u listed: %.1f MB/s\n", text.size(), vocabulary, plain.size() / read.one / 1e6);
 }
 
-// Making the word list of a plain text of the most bytes, beside a hash map with a stable sort and beside reading the same text through its list.
+// Making the word list of a plain text of the most bytes, beside a hash map with a stable sort, beside reading the same text through its list, and by a lent
+// letter table beside the built-in one.
 static void making(uint32_t words) {
     const std::string plain = sentences(CONCORDANCE_MAX_LIST_TEXT, words, 20261116);
     const auto bytes = [](const std::string &of) { return (const uint8_t *)of.data(); };
@@ -257,6 +274,27 @@ static void making(uint32_t words) {
     const std::string what = "make_list, " + std::to_string(std::count(front.begin(), front.end(), '\n')) + " distinct words";
     table.add(made.words, what, mapped.one, "unordered_map and stable_sort", mapped.other);
     table.add(made.words, what, again.one, "read_text by the list", again.other);
+    const auto make_by_lent = [&] {
+        made = concordance_make_list_with(letters.data(), letters.size(), bytes(plain), plain.size(), (uint8_t *)list.data(), list.size(),
+                                          ranks.data(), ranks.size());
+        must(made.answer.refusal == 0, "make_list_with");
+    };
+    std::fill(list.begin(), list.end(), 0);
+    std::fill(ranks.begin(), ranks.end(), 0);
+    make_by_lent();
+    must(list.substr(0, made.bytes) == front && made.words == theirs.size() && std::equal(theirs.begin(), theirs.end(), ranks.begin()),
+         "make_list_with");
+    const Both lent = in_turn(10 * runs, make_by_lent, make);
+    table.add(made.words, what + ", by a lent letter table", lent.one, "the built-in table", lent.other);
+}
+
+// The check of a letter table alone, of which many are timed together.
+static void letter_checks() {
+    const int checks = 10000;
+    const double time = seconds(runs, [&] {
+        for (int i = 0; i < checks; i++) must(concordance_check_letters(letters.data(), letters.size()).refusal == 0, "check_letters");
+    });
+    std::printf("check_letters: %.0f ns\n", time / checks * 1e9);
 }
 
 // A phrase in a wavelet tree, along the occurrences of its rarest word.
@@ -487,5 +525,6 @@ int main(int count, char **arguments) {
         measure(n, given ? std::atoi(arguments[1]) : 1024, given ? std::atoi(arguments[2]) : 8, !given);
     }
     for (uint32_t words : {6000, 50}) making(words);
+    letter_checks();
     plot("times.svg");
 }

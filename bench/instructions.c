@@ -7,15 +7,19 @@
  *
  * CALL is 0 for the check, 1, 3, 4 or 5 for a sheet of 400 questions of that kind, 6 for 20 pages of 20 lines, 7 for measuring, 8 for building, 9
  * for building by the sizes that are measured, 10 for making the word list of a plain text of 65,535 bytes, 11 for the first page of 100 lines of the
- * phrase of no words, 12 for the page of 100 lines that ends with the last place, 13 for the count of the phrase of no words. Each run builds the index
- * once before its call. The text has 400,000 words, or as many as are given, 20,000 at least, a few of them very frequent, so that phrases and neighbours
- * have many hits. A sum of the answers is printed: it is the same with every archive.
+ * phrase of no words, 12 for the page of 100 lines that ends with the last place, 13 for the count of the phrase of no words, 14 for reading the words
+ * of the text as plain text through a list of 50,000 words, 15 for the same by a lent copy of the built-in letter table, 16 for making the list of 10
+ * by such a copy, 17 for the check of a letter table. Each run builds the index once before its call. The text has 400,000 words, or as many as are
+ * given, 20,000 at least, a few of them very frequent, so that phrases and neighbours have many hits. A sum of the answers is printed: it is the same
+ * with every archive, and that of 15 is the same as of 14, that of 16 as of 10.
  *
  * What 11, 12 and 13 collect above 0, the check, is what a page and a count of the phrase of no words cost themselves. It does not grow with the number
- * of words; clearing tables on the stack takes up to some hundred instructions more or fewer by where they lie. With --toggle-collect=concordance_list, or
- * another entry, only what is done inside that entry is collected.
+ * of words; clearing tables on the stack takes up to some hundred instructions more or fewer by where they lie. What 15 collects above 14, and 16 above
+ * 10, is what it costs that the letter table is lent. With --toggle-collect=concordance_list, or another entry, only what is done inside that entry is
+ * collected.
  */
 #include "concordance.h"
+#include "letters.h"
 
 #include <stdio.h>
 #include <stdlib.h>
@@ -73,6 +77,8 @@ int main(int count, char **arguments) {
         questions[i].length = 2;
     }
 
+    uint8_t letters[256];
+    fill_letters(letters);
     uint64_t sum = built.refusal;
     if (call == 0) {
         sum += concordance_check(shape, INDEX).refusal;
@@ -92,13 +98,16 @@ int main(int count, char **arguments) {
     } else if (call == 9) {
         const concordance_sizes sizes = {nodes, size, size / (BLOCK * PER) + 1, size / BLOCK + 1};
         sum += concordance_build_sized(shape, sizes, text, n, INDEX).value;
-    } else if (call == 10) {
+    } else if (call == 10 || call == 16) {
         static char plain[CONCORDANCE_MAX_LIST_TEXT];
         static uint8_t list[CONCORDANCE_MAX_LIST_TEXT + 1];
         static uint32_t ranks[LISTED_WORDS];
         for (int i = 0; i < LISTED_WORDS; i++) sprintf(plain + 5 * i, "%04x ", (unsigned)text[i] % 4096);
+        const uint8_t *spelled = (const uint8_t *)plain;
+        const size_t length = 5 * LISTED_WORDS;
         const concordance_list_made made =
-            concordance_make_list((const uint8_t *)plain, 5 * LISTED_WORDS, list, sizeof list, ranks, LISTED_WORDS);
+            call == 10 ? concordance_make_list(spelled, length, list, sizeof list, ranks, LISTED_WORDS)
+                       : concordance_make_list_with(letters, sizeof letters, spelled, length, list, sizeof list, ranks, LISTED_WORDS);
         sum += made.answer.refusal + made.bytes + made.words;
         for (size_t i = 0; i < made.words; i++) sum = sum * 31 + ranks[i];
     } else if (call == 11 || call == 12) {
@@ -110,6 +119,19 @@ int main(int count, char **arguments) {
     } else if (call == 13) {
         const concordance_question question = {.kind = 5, .start = 0, .length = 0};
         sum += concordance_ask(shape, INDEX, words, 2 * QUESTIONS, question).value;
+    } else if (call == 14 || call == 15) {
+        char *list = malloc(5 * VOCABULARY + 1), *plain = malloc(5 * n + 1);
+        uint32_t *ranks = calloc(n, sizeof *ranks);
+        for (size_t i = 0; i < VOCABULARY; i++) sprintf(list + 5 * i, "%04x\n", (unsigned)i);
+        for (size_t i = 0; i < n; i++) sprintf(plain + 5 * i, "%04X ", (unsigned)text[i]);
+        const uint8_t *listed = (const uint8_t *)list, *spelled = (const uint8_t *)plain;
+        const concordance_answer read =
+            call == 14 ? concordance_read_text(listed, 5 * VOCABULARY, spelled, 5 * n, ranks, n)
+                       : concordance_read_text_with(letters, sizeof letters, listed, 5 * VOCABULARY, spelled, 5 * n, ranks, n);
+        sum += read.refusal + read.value;
+        for (size_t i = 0; i < read.value; i++) sum = sum * 31 + ranks[i];
+    } else if (call == 17) {
+        sum += concordance_check_letters(letters, sizeof letters).refusal;
     } else {
         sum += concordance_answer_sheet(shape, INDEX, words, 2 * QUESTIONS, questions, QUESTIONS, answers, 2 * QUESTIONS).refusal;
         for (int i = 0; i < 2 * QUESTIONS; i++) sum = sum * 31 + answers[i];

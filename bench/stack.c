@@ -5,6 +5,7 @@
  *   cc -O2 -Iinclude bench/stack.c target/staticlib/libconcordance.a -lpthread -o target/stack && target/stack
  */
 #include "concordance.h"
+#include "letters.h"
 
 #include <pthread.h>
 #include <stdio.h>
@@ -19,7 +20,7 @@ static uint32_t text[WORDS], lengths[NODES], superblocks[SUPERBLOCKS], into[WORD
 static uint16_t blocks[BLOCKS];
 static uint8_t bytes[MOST_BYTES], stream[MOST_BYTES];
 static char list[LISTED * 8], plain[WORDS * 9], sample[CONCORDANCE_MAX_LIST_TEXT];
-static uint8_t made[CONCORDANCE_MAX_LIST_TEXT + 1];
+static uint8_t made[CONCORDANCE_MAX_LIST_TEXT + 1], letters[256];
 static concordance_sizes sizes;
 #define INDEX lengths, sizes.nodes, bytes, sizes.bytes, superblocks, 256 * sizes.superblock_rows, blocks, 256 * sizes.block_rows
 
@@ -43,6 +44,13 @@ static void read_text(void) {
     must(concordance_read_text((const uint8_t *)list, strlen(list), (const uint8_t *)plain, strlen(plain), into, WORDS));
 }
 static void make_list(void) { must(concordance_make_list((const uint8_t *)sample, strlen(sample), made, sizeof made, into, WORDS).answer); }
+static void check_letters(void) { must(concordance_check_letters(letters, sizeof letters)); }
+static void read_text_with(void) {
+    must(concordance_read_text_with(letters, sizeof letters, (const uint8_t *)list, strlen(list), (const uint8_t *)plain, strlen(plain), into, WORDS));
+}
+static void make_list_with(void) {
+    must(concordance_make_list_with(letters, sizeof letters, (const uint8_t *)sample, strlen(sample), made, sizeof made, into, WORDS).answer);
+}
 
 static const concordance_question questions[5] = {{1, 0, 0, 0, WORDS - 1, 0, 0}, {2, 1, 0, 0, WORDS, 0, 0}, {3, 0, 0, 0, 1, 0, 0},
                                                   {4, 1, 2, 1, 0, 0, 0}, {5, 0, 0, 0, 0, 0, 16}};
@@ -82,7 +90,8 @@ static size_t needed(void (*call)(void)) {
     return bytes_needed;
 }
 
-/* A text with words of one, two and three bytes, its index, a word list of several parts, a plain text, and one that a list is made of. */
+/* A text with words of one, two and three bytes, its index, a word list of several parts, a plain text, one that a list is made of, and a letter
+   table. */
 static void prepare(void) {
     for (uint32_t i = 0; i < WORDS; i++) text[i] = i % 3 == 0 ? i % 100 : i % 3 == 1 ? i % 16000 : i * 7919u % VOCABULARY;
     char *end = list;
@@ -91,6 +100,7 @@ static void prepare(void) {
     for (int i = 0; i < WORDS; i++) end += sprintf(end, "W%d, ", i * 10 % LISTED);
     end = sample;
     for (int i = 0; i < CONCORDANCE_MAX_LIST_TEXT / 5; i++) end += sprintf(end, "%04d ", i % 4000);
+    fill_letters(letters);
     sizes = concordance_measure(shape, text, WORDS).sizes;
     write_stream();
     build();
@@ -103,7 +113,8 @@ int main(void) {
     } entries[] = {{"write_stream", write_stream}, {"read_stream", read_stream}, {"measure", measure}, {"build_sized", build_sized},
                    {"build", build}, {"check", check}, {"ask", ask}, {"answer_sheet", answer_sheet}, {"passage", passage},
                    {"open", open_listing}, {"list", list_page}, {"read_text", read_text},
-                   {"make_list", make_list}};
+                   {"make_list", make_list}, {"check_letters", check_letters}, {"read_text_with", read_text_with},
+                   {"make_list_with", make_list_with}};
     prepare();
     for (size_t i = 0; i < sizeof entries / sizeof entries[0]; i++) {
         printf("%s: %zu bytes\n", entries[i].name, needed(entries[i].call));

@@ -1,4 +1,4 @@
-/* Calls each of the thirteen entries on a small text, the sample of the scope paper, and shows a refusal of each entry that has one to teach. */
+/* Calls each of the sixteen entries on a small text, the sample of the scope paper, and shows a refusal of each entry that has one to teach. */
 #include "concordance.h"
 
 #include <stdio.h>
@@ -6,6 +6,9 @@
 
 /* The text has 5 words, the largest of rank 129. Its stream has 8 bytes, V 130 makes 2 nodes, and 8 bytes need one row of each counter. */
 enum { VOCABULARY = 130, WORDS = 5, NODES = 2, BYTES = 8, ROW = 256 };
+
+/* The number of entries of a letter table. */
+enum { LETTERS = 256 };
 
 static const uint32_t text[WORDS] = {0, 128, 0, 129, 128};
 static const concordance_shape shape = {VOCABULARY, 256, 8};
@@ -178,6 +181,45 @@ static void word_lists(void) {
     show("make_list, 65,537 bytes", concordance_make_list(longer, sizeof longer, list, 10, ranks, 3).answer);
 }
 
+/* The entries of the built-in letter table: what is kept, what gains 20, and 0 for the rest. */
+static void fill_letters(uint8_t letters[LETTERS]) {
+    for (int byte = 0; byte < LETTERS; byte++) {
+        const bool kept = (byte >= 0x30 && byte <= 0x39) || (byte >= 0x61 && byte <= 0x7A) || byte >= 0xDF;
+        const bool capital = (byte >= 0x41 && byte <= 0x5A) || (byte >= 0xC0 && byte <= 0xDE);
+        letters[byte] = (uint8_t)(byte == 0xD7 || byte == 0xF7 ? 0 : kept ? byte : capital ? byte + 0x20 : 0);
+    }
+}
+
+/* Entries 14, 15 and 16: a letter table of one's own, which is the built-in one with F7 as a letter and D7 as its capital, its check, and reading plain
+   text and making a list by it. */
+static void own_letters(void) {
+    uint8_t letters[LETTERS];
+    fill_letters(letters);
+    show("check_letters, the built-in table", concordance_check_letters(letters, LETTERS));
+    letters[0xD7] = 0xF7;
+    show("check_letters, D7 read as F7, a separator", concordance_check_letters(letters, LETTERS));
+    letters[0xF7] = 0xF7;
+    show("check_letters, D7 read as F7, a letter", concordance_check_letters(letters, LETTERS));
+    show("check_letters, 255 entries", concordance_check_letters(letters, LETTERS - 1));
+
+    const uint8_t list[4] = {0x61, 0xF7, 0x62, 0x0A}, plain[7] = {0x41, 0xD7, 0x42, 0x20, 0x61, 0xF7, 0x62};
+    uint32_t ranks[2];
+    show("read_text_with", concordance_read_text_with(letters, LETTERS, list, 4, plain, 3, ranks, 2));
+    show_numbers(ranks, 1);
+    show("read_text, the same list", concordance_read_text(list, 4, plain, 3, ranks, 2)); /* F7 is not kept */
+
+    uint8_t made_list[4];
+    concordance_list_made made = concordance_make_list_with(letters, LETTERS, plain, 7, made_list, 4, ranks, 2);
+    show("make_list_with", made.answer);
+    printf(" bytes %zu, words %zu\n", made.bytes, made.words);
+    show_bytes(made_list, made.bytes);
+    show_numbers(ranks, made.words);
+    letters[0x0A] = 0x61;
+    made = concordance_make_list_with(letters, LETTERS, plain, 7, made_list, 0, ranks, 0); /* the slices are too short besides */
+    show("make_list_with, 0A read as a letter", made.answer);
+    printf(" bytes %zu, words %zu\n", made.bytes, made.words);
+}
+
 int main(void) {
     streams();
     index_in_two_calls();
@@ -188,5 +230,6 @@ int main(void) {
     every_place();
     plain_text();
     word_lists();
+    own_letters();
     return 0;
 }

@@ -15,6 +15,19 @@
  * number is 0, and the elements are initialized. A slice that is written (no `const`) overlaps no other slice of the call. Lent memory does
  * not change while a call runs: a mapped file that another process writes is outside the promise.
  *
+ * Letters. A letter table has an entry for each of the 256 bytes: the letter that the byte is read as, or 0, which makes it a separator. It keeps a
+ * byte if that byte's entry is the byte itself. A word of a plain text is a longest run of bytes that are not separators, each replaced by its
+ * entry, which is called folding. The built-in table is of ISO 8859-1: it keeps 30 to 39, 61 to 7A and DF to FF without F7, 41 to 5A and C0 to DE
+ * without D7 gain 20 (hexadecimal), all others are 0. The program `letters` of the repository prints it, and crates/letters/stdout has what it
+ * prints: sixteen lines of sixteen entries, each a blank and two capital hexadecimal digits; a table of one's own is best made from a copy of it. A
+ * call that is lent a table, any bytes, uses that in place of the built-in one. The rules of a table:
+ *   it has 256 entries;
+ *   each is 0 or a byte that the table keeps;
+ *   entry 0A is 0;
+ *   some entry is not 0.
+ * Every call that is lent a table checks it, also one that was checked before, and refuses one that breaks a rule by 18. Entry 00 may be a letter,
+ * as every entry but 0A: the byte 00 of a text is then read as that letter.
+ *
  * The check. Every call that is lent an index checks it, in one pass over its bytes. The check says that some text has these arrays as its
  * index, and then only one text has. It cannot say that they are the arrays that were written: a changed byte can make them the index of
  * another text, and seeing that is the work of a checksum. Since each call makes the check, many contexts are one sheet of questions of kind
@@ -22,15 +35,15 @@
  *
  * Answers. An accepted call returns the refusal 0 and its value. A call that is turned down returns the number of its refusal, with the
  * value that the table below gives, and writes nothing: all lent memory stays as it was. The refusals of each call are listed at it in the
- * order in which they are tried, and where several apply, the first of them is returned (16 and 17 are tried before 5). No call keeps a pointer,
- * and equal arguments have equal answers.
+ * order in which they are tried, and where several apply, the first of them is returned (16 and 17 are tried before 5, 18 before all others). No
+ * call keeps a pointer, and equal arguments have equal answers.
  *
  * Stack. No call allocates memory; its tables lie on the stack. The most that a call needs, as bench/stack.c measures it on x86-64:
- *   concordance_read_text: 1463 KB
- *   concordance_make_list: 918 KB
+ *   concordance_read_text, concordance_read_text_with: 1463 KB
+ *   concordance_make_list, concordance_make_list_with: 918 KB
  *   concordance_build, concordance_build_sized, concordance_ask, concordance_answer_sheet, concordance_passage, concordance_list: 265 KB
  *   concordance_check: 3 KB
- *   concordance_write_stream, concordance_read_stream, concordance_measure, concordance_open: less than 1 KB
+ *   concordance_write_stream, concordance_read_stream, concordance_measure, concordance_open, concordance_check_letters: less than 1 KB
  */
 #ifndef CONCORDANCE_H
 #define CONCORDANCE_H
@@ -43,7 +56,7 @@
  * The version of this header. It changes when an entry is added, or a struct or the meaning of an entry changes, so that a program can tell
  * what it was written for.
  */
-#define CONCORDANCE_VERSION 4
+#define CONCORDANCE_VERSION 5
 
 #ifdef __cplusplus
 extern "C" {
@@ -85,7 +98,9 @@ enum {
     /* the four sizes that are handed back are not those of the text */
     CONCORDANCE_REFUSED_SIZES = 16,
     /* a plain text to make a list of has more than 65,536 bytes, or more than 4,096 distinct words */
-    CONCORDANCE_REFUSED_LIST_MAKING = 17
+    CONCORDANCE_REFUSED_LIST_MAKING = 17,
+    /* the letter table breaks a rule: 256 entries, each 0 or a byte that the table keeps, entry 0A is 0, some entry is not 0 */
+    CONCORDANCE_REFUSED_TABLE = 18
 };
 
 /* The limits. */
@@ -311,14 +326,13 @@ concordance_page concordance_list(concordance_listing listing, concordance_shape
                                   uint32_t *lines, size_t lines_len);
 
 /*
- * Reads plain text of ISO 8859-1 through a word list. A word is a longest run of letters and digits, its capitals made small: the bytes 30
- * to 39, 61 to 7A and DF to FF without F7 are kept, 41 to 5A and C0 to DE without D7 gain 20 (hexadecimal), all others are separators. The
- * list gives V words in rank order, each closed by 0A.
+ * Reads plain text of ISO 8859-1 through a word list. A word is a longest run of letters and digits, its capitals made small, by the built-in
+ * letter table. The list gives V words in rank order, each closed by 0A.
  * Returns: the number of words of the text.
  * Writes: the rank of each word, in order, in front of `ranks`; the elements past them stay.
  * Refusals: 1 if V, the number of 0A bytes of the list, is outside its limits; 2 if the text has more than 16,777,216 words, listed or not;
  * 5 if `ranks` has fewer elements than the text has words, listed or not; 13 if a word of the list is empty, stands there twice, is not
- * closed, or has a byte that is not kept; 14, with the byte offset at which the first word of the text starts that is not in the list. The
+ * closed, or has the byte 00 or one that is not kept; 14, with the byte offset at which the first word of the text starts that is not in the list. The
  * value of the others is 0. A refused call changes nothing.
  */
 concordance_answer concordance_read_text(const uint8_t *list, size_t list_len, const uint8_t *text, size_t text_len, uint32_t *ranks, size_t ranks_len);
@@ -338,6 +352,43 @@ concordance_answer concordance_read_text(const uint8_t *list, size_t list_len, c
  * call changes nothing.
  */
 concordance_list_made concordance_make_list(const uint8_t *text, size_t text_len, uint8_t *list, size_t list_len, uint32_t *ranks, size_t ranks_len);
+
+/*
+ * Checks a letter table, for the moment when it is loaded; no other call relies on it.
+ * Returns: 0.
+ * Writes: nothing, accepted or refused.
+ * Refusals: 18 if the table breaks one of the rules above. Its value is 0. The built-in table passes.
+ */
+concordance_answer concordance_check_letters(const uint8_t *letters, size_t letters_len);
+
+/*
+ * Reads plain text through a word list as concordance_read_text, with the lent letter table in place of the built-in one: by it a byte of the
+ * text is a letter or a separator, is folded, and is kept in the list. With a copy of the built-in table the answers are those of
+ * concordance_read_text.
+ * Returns: the number of words of the text.
+ * Writes: the rank of each word, in order, in front of `ranks`; the elements past them stay.
+ * Refusals: 18 if the table breaks a rule; 1 if V, the number of 0A bytes of the list, is outside its limits; 2 if the text has more than
+ * 16,777,216 words, listed or not; 5 if `ranks` has fewer elements than the text has words, listed or not; 13 if a word of the list is empty,
+ * stands there twice, is not closed, or has the byte 00 or one that the table does not keep; 14, with the byte offset at which the first word of the
+ * text starts that is not in the list. The value of the others is 0. A refused call changes nothing.
+ */
+concordance_answer concordance_read_text_with(const uint8_t *letters, size_t letters_len, const uint8_t *list, size_t list_len,
+                                              const uint8_t *text, size_t text_len, uint32_t *ranks, size_t ranks_len);
+
+/*
+ * Makes the word list of a plain text and reads the text through it as concordance_make_list, with the lent letter table in place of the
+ * built-in one: the words are those that concordance_read_text_with finds and folds by this table. With a copy of the built-in table the
+ * answers are those of concordance_make_list.
+ * Returns: in `answer` the value 0; in `bytes` the number of bytes of the list; in `words` n, the number of words of the text.
+ * Writes: the list in front of `list` and the ranks in front of `ranks`, in the order that concordance_make_list says, as
+ * concordance_read_text_with gives them by this list and this table. The elements past them stay. The lengths that are enough for
+ * concordance_make_list are enough here, whatever the table. A text without words is accepted, with an empty list.
+ * Refusals: 18 if the table breaks a rule; 2 if the text has more than 16,777,216 words; 17 if it has more than 65,536 bytes, or more than
+ * 4,096 distinct words; 5 if `list` is shorter than the list, or `ranks` has fewer elements than the text has words. The value of each is 0, and
+ * so are `bytes` and `words`. A refused call changes nothing.
+ */
+concordance_list_made concordance_make_list_with(const uint8_t *letters, size_t letters_len, const uint8_t *text, size_t text_len,
+                                                 uint8_t *list, size_t list_len, uint32_t *ranks, size_t ranks_len);
 
 #ifdef __cplusplus
 }

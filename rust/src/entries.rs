@@ -1,4 +1,4 @@
-//! The thirteen entries of the archive, over slices and as they are: no slice is made, and the answer is the one that the engine gives.
+//! The sixteen entries of the archive, over slices and as they are: no slice is made, and the answer is the one that the engine gives.
 //!
 //! Each call is safe, since an entry asks nothing of its arguments but what a slice always has: it is not null, aligned, initialized and as
 //! long as it says, and one that is written is lent to nobody else.
@@ -133,6 +133,43 @@ pub fn read_text(list: &[u8], text: &[u8], ranks: &mut [u32]) -> Answer {
 pub fn make_list(text: &[u8], list: &mut [u8], ranks: &mut [u32]) -> ListMade {
     unsafe {
         ffi::concordance_make_list(
+            text.as_ptr(),
+            text.len(),
+            list.as_mut_ptr(),
+            list.len(),
+            ranks.as_mut_ptr(),
+            ranks.len(),
+        )
+    }
+}
+
+/// Checks a letter table.
+pub fn check_letters(letters: &[u8]) -> Answer {
+    unsafe { ffi::concordance_check_letters(letters.as_ptr(), letters.len()) }
+}
+
+/// Reads plain text through a word list, by a lent letter table.
+pub fn read_text_with(letters: &[u8], list: &[u8], text: &[u8], ranks: &mut [u32]) -> Answer {
+    unsafe {
+        ffi::concordance_read_text_with(
+            letters.as_ptr(),
+            letters.len(),
+            list.as_ptr(),
+            list.len(),
+            text.as_ptr(),
+            text.len(),
+            ranks.as_mut_ptr(),
+            ranks.len(),
+        )
+    }
+}
+
+/// Makes the word list of a plain text by a lent letter table, and writes the ranks of its words.
+pub fn make_list_with(letters: &[u8], text: &[u8], list: &mut [u8], ranks: &mut [u32]) -> ListMade {
+    unsafe {
+        ffi::concordance_make_list_with(
+            letters.as_ptr(),
+            letters.len(),
             text.as_ptr(),
             text.len(),
             list.as_mut_ptr(),

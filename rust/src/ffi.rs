@@ -252,4 +252,28 @@ extern "C" {
         ranks: *mut u32,
         ranks_len: usize,
     ) -> ListMade;
+
+    pub fn concordance_check_letters(letters: *const u8, letters_len: usize) -> Answer;
+
+    pub fn concordance_read_text_with(
+        letters: *const u8,
+        letters_len: usize,
+        list: *const u8,
+        list_len: usize,
+        text: *const u8,
+        text_len: usize,
+        ranks: *mut u32,
+        ranks_len: usize,
+    ) -> Answer;
+
+    pub fn concordance_make_list_with(
+        letters: *const u8,
+        letters_len: usize,
+        text: *const u8,
+        text_len: usize,
+        list: *mut u8,
+        list_len: usize,
+        ranks: *mut u32,
+        ranks_len: usize,
+    ) -> ListMade;
 }

@@ -5,7 +5,7 @@
 //! and plain text are read and written by functions of their own. Every refusal of the engine comes
 //! back as a [`Refused`], with the number and the value of the engine's table.
 //!
-//! Nothing here decides an answer: the functions lend slices to the engine and hand on what it says. The module [`entries`] has the thirteen
+//! Nothing here decides an answer: the functions lend slices to the engine and hand on what it says. The module [`entries`] has the sixteen
 //! entries themselves, over slices that the caller makes.
 //!
 //! # Memory
@@ -18,6 +18,12 @@
 //! [`make_list`] makes the word list of a plain text of up to 65,536 bytes, the most frequent word first, and gives the text's ranks by it. With
 //! the list, [`read_text`] turns a phrase that somebody types into the ranks to ask about.
 //!
+//! # Letters of one's own
+//!
+//! Which bytes make words, and how they are folded, is said by a letter table of 256 entries. [`Letters::built_in`] is that of ISO 8859-1; of any
+//! other that keeps the rules [`Letters::new`] makes one, with which [`make_list_with`] and [`read_text_with`] do what [`make_list`] and
+//! [`read_text`] do with the built-in one.
+//!
 //! # Browsing
 //!
 //! Before anything is typed the phrase has no words: [`read_text`] of an empty text gives it. It stands at every place from 0 to n, so that
@@ -25,9 +31,9 @@
 //!
 //! # Stack
 //!
-//! The engine allocates nothing; its tables lie on the stack of the calling thread. As `bench/stack.c` measures it, [`read_text`] needs 1.5 MB,
-//! [`make_list`] 0.9 MB, building, questions, sheets, passages and pages 265 KB, the rest less than 4 KB. A thread with Rust's default
-//! stack of 2 MB can make every call.
+//! The engine allocates nothing; its tables lie on the stack of the calling thread. As `bench/stack.c` measures it, [`read_text`] and
+//! [`read_text_with`] need 1.5 MB, [`make_list`] and [`make_list_with`] 0.9 MB, building, questions, sheets, passages and pages 265 KB, the
+//! rest less than 4 KB. A thread with Rust's default stack of 2 MB can make every call.
 //!
 //! # What the check says
 //!
@@ -40,6 +46,7 @@
 pub mod entries;
 mod ffi;
 mod index;
+mod letters;
 mod listing;
 mod refusal;
 mod streams;
@@ -47,10 +54,11 @@ mod word_list;
 
 pub use ffi::{IndexSizes, Listing, Question, Shape};
 pub use index::{Arrays, Index};
+pub use letters::Letters;
 pub use listing::{Page, Pages};
 pub use refusal::{Refusal, Refused};
-pub use streams::{read_stream, read_text, write_stream};
-pub use word_list::{make_list, WordList};
+pub use streams::{read_stream, read_text, read_text_with, write_stream};
+pub use word_list::{make_list, make_list_with, WordList};
 
 /// The largest vocabulary.
 pub const MAX_VOCABULARY: usize = 2_113_664;

@@ -22,13 +22,14 @@ pub enum Refusal {
     Stream,
     Sizes,
     ListMaking,
+    Table,
     /// A number that this table lacks, as a later archive may report it.
     Other(u32),
 }
 
 impl Refusal {
     /// The rows in the order of their numbers, from 1 on.
-    const ROWS: [Refusal; 17] = [
+    const ROWS: [Refusal; 18] = [
         Refusal::Vocabulary,
         Refusal::Words,
         Refusal::Blocks,
@@ -46,6 +47,7 @@ impl Refusal {
         Refusal::Stream,
         Refusal::Sizes,
         Refusal::ListMaking,
+        Refusal::Table,
     ];
 
     /// The refusal with a number; none for 0, which says that the call was accepted.
@@ -94,6 +96,10 @@ impl Refusal {
             Refusal::Sizes => "the four sizes are not those of the text",
             Refusal::ListMaking => {
                 "a plain text to make a list of has more than 65,536 bytes, or more than 4,096 distinct words"
+            }
+            Refusal::Table => {
+                "the letter table breaks a rule: 256 entries, each 0 or a byte that the table keeps, entry 0A is 0, some \
+                 entry is not 0"
             }
             Refusal::Other(_) => "a number that the table of this version lacks",
         }

@@ -1,6 +1,8 @@
 //! Streams of codewords, and plain text through a word list. A slice to be filled is made for the most words of a text at most: beyond
 //! that the engine turns the call down before it looks at the slice.
 use crate::entries;
+use crate::ffi::Answer;
+use crate::letters::Letters;
 use crate::refusal::Refused;
 use crate::{LONGEST_CODEWORD, MAX_WORDS};
 
@@ -21,10 +23,20 @@ pub fn read_stream(stream: &[u8]) -> Result<Vec<u32>, Refused> {
     Ok(text)
 }
 
-/// The ranks of the words of a plain text, by a word list.
+/// The ranks of the words of a plain text, by a word list and the built-in letter table.
 pub fn read_text(list: &[u8], text: &[u8]) -> Result<Vec<u32>, Refused> {
+    ranks_of(text, |ranks| entries::read_text(list, text, ranks))
+}
+
+/// The ranks of the words of a plain text, by a word list and a letter table.
+pub fn read_text_with(letters: &Letters, list: &[u8], text: &[u8]) -> Result<Vec<u32>, Refused> {
+    ranks_of(text, |ranks| entries::read_text_with(letters.table(), list, text, ranks))
+}
+
+/// The ranks that a call writes of a plain text. Whatever the letter table, a text has no more words than every second byte can begin.
+fn ranks_of(text: &[u8], read: impl FnOnce(&mut [u32]) -> Answer) -> Result<Vec<u32>, Refused> {
     let mut ranks = vec![0; text.len().div_ceil(2).min(MAX_WORDS)];
-    let written = entries::read_text(list, text, &mut ranks).result()?;
+    let written = read(&mut ranks).result()?;
     ranks.truncate(written);
     Ok(ranks)
 }

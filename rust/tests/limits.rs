@@ -294,16 +294,16 @@ fn absurd_lengths() {
     assert_eq!(pages, [[0, 1, 2, 3, 4]]);
 }
 
-/// The numbers 1 to 17 have a row of the table each, 0 is no refusal, and any other number comes back as itself.
+/// The numbers 1 to 18 have a row of the table each, 0 is no refusal, and any other number comes back as itself.
 #[test]
 fn refusals() {
     assert_eq!(Refusal::from_number(0), None);
-    for number in 1..=17 {
+    for number in 1..=18 {
         let refusal = Refusal::from_number(number).expect("a number above 0 is a refusal");
         assert_eq!(refusal.number(), number);
         assert_ne!(refusal, Refusal::Other(number));
     }
-    for number in [18, u32::MAX] {
+    for number in [19, u32::MAX] {
         assert_eq!(Refusal::from_number(number), Some(Refusal::Other(number)));
         assert_eq!(Refusal::Other(number).number(), number);
     }

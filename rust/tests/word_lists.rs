@@ -9,6 +9,11 @@ const MOST_BYTES: usize = 65_536;
 const MOST_LISTED: usize = 4_096;
 const MAX_WORDS: usize = 16_777_216;
 
+/// What is made of a text by the built-in letter table.
+fn made_of(text: &[u8]) -> reference::Made {
+    reference::made(&reference::built_in(), text)
+}
+
 /// What a refused call returns.
 fn turned_down(refusal: u32) -> ListMade {
     ListMade { answer: reference::refused(refusal), bytes: 0, words: 0 }
@@ -38,7 +43,7 @@ fn compare(text: &[u8], made: &reference::Made, room: (usize, usize)) -> ListMad
 
 /// The same in slices of the lengths that the text needs, longer ones, ones that are too short by one, and empty ones.
 fn compare_in_all_rooms(text: &[u8]) -> reference::Made {
-    let made = reference::made(text);
+    let made = made_of(text);
     let (bytes, words) =
         made.as_ref().map_or((MOST_BYTES + 1, MOST_BYTES / 2), |(list, ranks)| (list.len(), ranks.len()));
     for room in [
@@ -142,7 +147,7 @@ fn random_texts() {
             0 => inputs::plain_text(&mut random),
             _ => inputs::repetitive_text(&mut random),
         };
-        let made = reference::made(&text);
+        let made = made_of(&text);
         let (list, ranks) = made.as_ref().unwrap();
         let mut length = |needed: usize| match random.below(8) {
             0 => needed.saturating_sub(1),
@@ -171,7 +176,7 @@ fn small_texts() {
     for length in 0..=4u32 {
         for number in 0..4usize.pow(length) {
             let text: Vec<u8> = (0..length).map(|place| b"aAb "[number / 4usize.pow(place) % 4]).collect();
-            let made = reference::made(&text);
+            let made = made_of(&text);
             let (list, ranks) = made.as_ref().unwrap();
             for bytes in 0..=list.len() + 1 {
                 for words in 0..=ranks.len() + 1 {
@@ -190,7 +195,7 @@ fn each_byte() {
     for byte in 0..=255u8 {
         let text = [&[byte][..], b" a", &[byte], b"b ", &[byte], b"a b", &[byte]].concat();
         for text in [&[byte][..], &text] {
-            let made = reference::made(text);
+            let made = made_of(text);
             compare(text, &made, (20, 8));
             let (list, ranks) = made.unwrap();
             check_made(text, &list, &ranks);
@@ -262,7 +267,7 @@ fn longest_texts() {
 
 /// The words of one kept byte and of two, so many of them: they take the fewest bytes.
 fn shortest_words(count: usize) -> Vec<Vec<u8>> {
-    let kept: Vec<u8> = (0..=255).filter(|&byte| byte != 0 && reference::letter(byte) == byte).collect();
+    let kept = reference::kept(&reference::built_in());
     let pairs = kept.iter().flat_map(|&one| kept.iter().map(move |&other| vec![one, other]));
     kept.iter().map(|&byte| vec![byte]).chain(pairs).take(count).collect()
 }
@@ -324,7 +329,7 @@ fn most_words_of_a_text() {
 /// Different words of five letters, so many of them, that share a bucket of the engine's hash table, which has 65,536.
 fn words_of_a_bucket(count: usize) -> Vec<Vec<u8>> {
     let step = |bucket: usize, byte: u8| (bucket * 40_503 + usize::from(byte)) % 65_536;
-    let kept: Vec<u8> = (0..=255).filter(|&byte| byte != 0 && reference::letter(byte) == byte).collect();
+    let kept = reference::kept(&reference::built_in());
     let mut last = vec![None; 65_536];
     for &one in &kept {
         for &two in &kept {
@@ -360,7 +365,7 @@ fn hostile_texts() {
     let bucket = words_of_a_bucket(MOST_LISTED);
     let bucket = bucket.iter().cycle().take(MOST_BYTES / 6).map(Vec::as_slice).collect::<Vec<_>>().join(&b' ');
     let crowd = words_of_a_bucket(MOST_BYTES / 6).join(&b' ');
-    assert_eq!(compare(&crowd, &reference::made(&crowd), (MOST_BYTES + 1, MOST_BYTES / 2)), turned_down(17));
+    assert_eq!(compare(&crowd, &made_of(&crowd), (MOST_BYTES + 1, MOST_BYTES / 2)), turned_down(17));
     for (text, words, spellings) in [
         (alike, 27_306, 2),
         (bucket, 10_922, MOST_LISTED),
@@ -368,7 +373,7 @@ fn hostile_texts() {
         (fronts, 350, 350),
         (all_bytes, 124 * 128, 68),
     ] {
-        let made = reference::made(&text);
+        let made = made_of(&text);
         compare(&text, &made, (MOST_BYTES + 1, MOST_BYTES / 2));
         let (list, ranks) = made.unwrap();
         assert_eq!(
@@ -494,7 +499,7 @@ fn owned_lists() {
         };
         let made = concordance::make_list(&text);
         met[made.as_ref().map_or_else(|refused| refused.refusal.number(), |_| 0) as usize] += 1;
-        match (made, reference::made(&text)) {
+        match (made, made_of(&text)) {
             (Ok(made), Ok((list, ranks))) => {
                 assert!(made.list == list && made.ranks == ranks, "{}", front(&text));
                 let spelled = made.spellings().map(|word| [word, b"\n"].concat()).collect::<Vec<_>>();

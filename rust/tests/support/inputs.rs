@@ -1,4 +1,4 @@
-//! Random inputs: texts, shapes, slices for an index, sizes, arrays that are damaged, questions, plain texts and word lists.
+//! Random inputs: texts, shapes, slices for an index, sizes, arrays that are damaged, questions, plain texts, word lists and letter tables.
 use super::random::Random;
 use super::reference;
 use concordance::{Arrays, IndexSizes, Question, Shape};
@@ -336,28 +336,119 @@ pub fn repetitive_text(random: &mut Random) -> Vec<u8> {
     (0..length).map(|_| random.one_of(symbols)).collect()
 }
 
-/// A list of the words of a text and some others, which may break a rule or lack a word.
-pub fn word_list(random: &mut Random, text: &[u8]) -> Vec<u8> {
+/// A list of the words of a text by a letter table and some others, which may break a rule or lack a word.
+pub fn word_list(random: &mut Random, table: &[u8], text: &[u8]) -> Vec<u8> {
     let mut words: Vec<Vec<u8>> = Vec::new();
-    for (_, word) in reference::words_of(text) {
+    for (_, word) in reference::words_of(table, text) {
         if !words.contains(&word) && !random.once_in(30) {
             words.push(word);
         }
     }
-    for other in [&b"zzz"[..], b"q", b"\xE9t\xE9"] {
-        let other = other.to_vec();
+    let kept = reference::kept(table);
+    let others: Vec<u8> = (0..=255).filter(|byte| kept.binary_search(byte).is_err()).collect();
+    for length in [3, 1, 2] {
+        let other: Vec<u8> = (0..length).map(|_| random.one_of(&kept)).collect();
         if random.once_in(2) && !words.contains(&other) {
             words.insert(random.below(words.len() + 1), other);
         }
     }
     let mut list: Vec<u8> = words.iter().flat_map(|word| [&word[..], b"\n"].concat()).collect();
-    match random.below(12) {
+    match random.below(14) {
         0 => drop(list.pop()),
         1 => list.insert(random.below(list.len() + 1), b'\n'),
-        2 => list.insert(random.below(list.len() + 1), random.one_of(&SEPARATORS)),
-        3 => list.insert(random.below(list.len() + 1), random.one_of(&LETTERS)),
+        2 => list.insert(random.below(list.len() + 1), random.one_of(&others)),
+        3 => list.insert(random.below(list.len() + 1), random.one_of(&kept)),
         4 => list.extend(list.clone().into_iter().take(6)),
+        5 => list.retain(|&byte| byte != b'\n'),
         _ => {}
     }
     list
+}
+
+/// A letter table: it keeps one byte, few, many or all that it may, and each other byte is a separator or is folded to one of these, 00 too.
+pub fn letter_table(random: &mut Random) -> Vec<u8> {
+    let mut bytes: Vec<u8> = (1..=255).filter(|&byte| byte != b'\n').collect();
+    for at in 1..bytes.len() {
+        bytes.swap(at, random.below(at + 1));
+    }
+    let few = random.between(2, 6);
+    let many = random.between(1, bytes.len());
+    let (kept, others) = bytes.split_at(random.one_of(&[1, few, many, many, bytes.len()]));
+    let folded = random.below(5);
+    let mut table = vec![0; 256];
+    for &byte in kept {
+        table[usize::from(byte)] = byte;
+    }
+    for &byte in others.iter().chain([&0]) {
+        if random.below(4) < folded {
+            table[usize::from(byte)] = random.one_of(kept);
+        }
+    }
+    table
+}
+
+/// A letter table with one rule broken: there are fewer or more than 256 entries, an entry names a byte that the table does not keep, the line end is a
+/// letter, or all are separators.
+pub fn broken_table(random: &mut Random) -> Vec<u8> {
+    let mut table = letter_table(random);
+    let kept = reference::kept(&table);
+    match random.below(9) {
+        0 => table.truncate(255),
+        1 => table.truncate(random.below(256)),
+        2 => table.push(random.one_of(&[0, kept[0]])),
+        3 => table.extend(table.clone()),
+        4 => {
+            let unkept: Vec<u8> = (0..=255).filter(|byte| kept.binary_search(byte).is_err()).collect();
+            let places: Vec<u8> = unkept.iter().copied().filter(|&byte| byte != b'\n').collect();
+            let at = random.one_of(&places);
+            let names: Vec<u8> = unkept.into_iter().filter(|&byte| byte != 0 && byte != at).collect();
+            table[usize::from(at)] = random.one_of(&names);
+        }
+        5 => {
+            let name = random.one_of(&kept);
+            let places: Vec<usize> = (0..=255).filter(|&byte| byte != 0x0A && byte != usize::from(name)).collect();
+            let other = random.one_of(&kept);
+            table[random.one_of(&places)] = name;
+            table[usize::from(name)] = if other == name { 0 } else { other };
+        }
+        6 => table[0x0A] = random.one_of(&kept),
+        7 => table[0x0A] = 0x0A,
+        _ => table.fill(0),
+    }
+    table
+}
+
+/// Bytes of any number about 256, most often 256 of them: all of them any, or most of them 0 or their own place.
+pub fn any_table(random: &mut Random) -> Vec<u8> {
+    let length = random.one_of(&[256, 256, 256, 256, 256, 0, 1, 255, 257, 512]);
+    let any = random.one_of(&[1, 20, 200, 2_000]);
+    (0..length)
+        .map(|place| match random.below(2) {
+            _ if random.once_in(any) => random.next() as u8,
+            0 => 0,
+            _ => place as u8 * u8::from(place % 256 != 0x0A),
+        })
+        .collect()
+}
+
+/// A plain text by a letter table: over few of its letters, each in one spelling or two, and few of its separators, or over all bytes.
+pub fn text_by(random: &mut Random, table: &[u8]) -> Vec<u8> {
+    let kept = reference::kept(table);
+    let spelled =
+        |letter: u8| -> Vec<u8> { (0..=255).filter(|&byte| reference::letter(table, byte) == letter).collect() };
+    let separators = spelled(0);
+    let mut letters = Vec::new();
+    for _ in 0..random.between(1, 4) {
+        let spellings = spelled(random.one_of(&kept));
+        letters.extend([random.one_of(&spellings), random.one_of(&spellings)]);
+    }
+    let between = [random.one_of(&separators), random.one_of(&separators), b'\n'];
+    let any = random.once_in(10);
+    (0..random.between(0, 60))
+        .map(|_| match random.below(4) {
+            _ if any => random.next() as u8,
+            0 => random.one_of(&between),
+            _ => random.one_of(&letters),
+        })
+        .collect()
 }

@@ -425,24 +425,57 @@ pub fn page(
 
 // ---- plain text
 
-/// The letter of a byte; 0 for a separator.
-pub fn letter(byte: u8) -> u8 {
-    match byte {
-        0x30..=0x39 | 0x61..=0x7A => byte,
-        0x41..=0x5A => byte + 0x20,
-        0xD7 | 0xF7 => 0,
-        0xC0..=0xDE => byte + 0x20,
-        0xDF..=0xFF => byte,
-        _ => 0,
+/// The built-in letter table: all separators at first, then range by range what keeps its value and what gains 20.
+pub fn built_in() -> Vec<u8> {
+    let mut table = vec![0; 256];
+    for (first, last, gained) in
+        [(0x30, 0x39, 0), (0x61, 0x7A, 0), (0x41, 0x5A, 0x20), (0xC0, 0xDE, 0x20), (0xDF, 0xFF, 0)]
+    {
+        for byte in first..=last {
+            table[usize::from(byte)] = byte + gained;
+        }
+    }
+    table[0xD7] = 0;
+    table[0xF7] = 0;
+    table
+}
+
+/// Whether some bytes are a letter table: there are 256, the letters that they name are among the bytes that stand at their own place, there is such a
+/// letter, and the line end has none.
+pub fn is_table(table: &[u8]) -> bool {
+    let (mut named, mut kept) = ([false; 256], [false; 256]);
+    for (place, &entry) in table.iter().enumerate() {
+        named[usize::from(entry)] |= entry != 0;
+        kept[usize::from(entry)] |= place == usize::from(entry);
+    }
+    let all_kept = named.iter().zip(kept).all(|(&named, kept)| kept || !named);
+    table.len() == 256 && all_kept && named.contains(&true) && table[0x0A] == 0
+}
+
+pub fn check_letters(table: &[u8]) -> Answer {
+    if is_table(table) {
+        accepted(0)
+    } else {
+        refused(18)
     }
 }
 
-/// The words of a plain text, each with the byte offset at which it starts.
-pub fn words_of(text: &[u8]) -> Vec<(usize, Vec<u8>)> {
+/// The letter of a byte by a table; 0 for a separator.
+pub fn letter(table: &[u8], byte: u8) -> u8 {
+    table[usize::from(byte)]
+}
+
+/// The bytes of which the words of a list are made, by a table.
+pub fn kept(table: &[u8]) -> Vec<u8> {
+    (1..=255).filter(|&byte| letter(table, byte) == byte).collect()
+}
+
+/// The words of a plain text by a table, each with the byte offset at which it starts.
+pub fn words_of(table: &[u8], text: &[u8]) -> Vec<(usize, Vec<u8>)> {
     let mut words: Vec<(usize, Vec<u8>)> = Vec::new();
     let mut inside = false;
     for (at, &byte) in text.iter().enumerate() {
-        let folded = letter(byte);
+        let folded = letter(table, byte);
         if folded == 0 {
             inside = false;
         } else if inside {
@@ -455,16 +488,17 @@ pub fn words_of(text: &[u8]) -> Vec<(usize, Vec<u8>)> {
     words
 }
 
-/// The words of a list by their rank; none where it breaks a rule.
-fn list_words(list: &[u8]) -> Option<Vec<&[u8]>> {
+/// The words of a list by their rank; none where it breaks a rule by a table.
+fn list_words<'a>(table: &[u8], list: &'a [u8]) -> Option<Vec<&'a [u8]>> {
     if list.last().is_some_and(|&byte| byte != 0x0A) {
         return None;
     }
     let mut words: Vec<&[u8]> = list.split(|&byte| byte == 0x0A).collect();
     words.pop();
-    let kept = |word: &&[u8]| !word.is_empty() && word.iter().all(|&byte| byte != 0 && letter(byte) == byte);
+    let kept = kept(table);
+    let spelled = |word: &&[u8]| !word.is_empty() && word.iter().all(|byte| kept.binary_search(byte).is_ok());
     let distinct: HashSet<&[u8]> = words.iter().copied().collect();
-    (words.iter().all(kept) && distinct.len() == words.len()).then_some(words)
+    (words.iter().all(spelled) && distinct.len() == words.len()).then_some(words)
 }
 
 /// The rank of each word of a list.
@@ -472,19 +506,23 @@ fn ranks_of<'a>(listed: &[&'a [u8]]) -> HashMap<&'a [u8], u32> {
     listed.iter().enumerate().map(|(rank, &word)| (word, rank as u32)).collect()
 }
 
-pub fn read_text(list: &[u8], text: &[u8], into: &mut [u32]) -> Answer {
+/// Reads plain text by a table, which may be no table.
+pub fn read_text(table: &[u8], list: &[u8], text: &[u8], into: &mut [u32]) -> Answer {
+    if !is_table(table) {
+        return refused(18);
+    }
     let closings = list.iter().filter(|&&byte| byte == 0x0A).count();
     if !vocabulary_fits(closings) {
         return refused(1);
     }
-    let words = words_of(text);
+    let words = words_of(table, text);
     if words.len() > MAX_WORDS {
         return refused(2);
     }
     if into.len() < words.len() {
         return refused(5);
     }
-    let Some(listed) = list_words(list) else {
+    let Some(listed) = list_words(table, list) else {
         return refused(13);
     };
     let ranks = ranks_of(&listed);
@@ -500,9 +538,13 @@ pub fn read_text(list: &[u8], text: &[u8], into: &mut [u32]) -> Answer {
 /// What is made of a plain text: its word list and the ranks of its words, or its refusal.
 pub type Made = Result<(Vec<u8>, Vec<u32>), Answer>;
 
-/// Counts the words of a plain text in a map, and sorts them in the order in which they appear, stably, by how often they stand.
-pub fn made(text: &[u8]) -> Made {
-    let words = words_of(text);
+/// Counts the words of a plain text by a table, which may be no table, in a map, and sorts them in the order in which they appear, stably, by how often
+/// they stand.
+pub fn made(table: &[u8], text: &[u8]) -> Made {
+    if !is_table(table) {
+        return Err(refused(18));
+    }
+    let words = words_of(table, text);
     if words.len() > MAX_WORDS {
         return Err(refused(2));
     }
