@@ -40,7 +40,7 @@
  *
  * Stack. No call allocates memory; its tables lie on the stack. The most that a call needs, as bench/stack.c measures it on x86-64:
  *   concordance_read_text, concordance_read_text_with: 1463 KB
- *   concordance_make_list, concordance_make_list_with: 918 KB
+ *   concordance_make_list, concordance_make_list_with: 919 KB
  *   concordance_build, concordance_build_sized, concordance_ask, concordance_answer_sheet, concordance_passage, concordance_list: 265 KB
  *   concordance_check: 3 KB
  *   concordance_write_stream, concordance_read_stream, concordance_measure, concordance_open, concordance_check_letters: less than 1 KB
