@@ -8,7 +8,7 @@ use native.Mathlib.Omega.{arith}
 use lib.ListN.{length, getD, take, drop}
 use Rattle.base.specs.Lists.{countOf, nth}
 use Rattle.base.proofs.Tests.{below-or-not}
-use Rattle.base.proofs.Counts.{count-part, nth-part}
+use Rattle.base.proofs.Counts.{nth-part}
 use Rattle.directory.specs.Counters.{Sizes, Directory}
 use Rattle.directory.specs.Tables.{LastRow}
 use Rattle.base.proofs.Parts.{quotient-inside, inside-quotient, part-cut}
@@ -77,18 +77,6 @@ pub position : {m : ℕ} {bytes : List ℕ} {x j r : ℕ} (stop : ℕ) → Holds
 position {m} {bytes} {x} {j} {r} stop h e =
     rw (part-cut bytes (r * m) m stop (h .here) e)
     (sym (nth-part x j (r * m) m bytes (h .here) (h .most) (λ (k : r * m + m < length bytes). rw (suc-mul r m) at (h .next (rw (suc-mul r m) (omega arith))))))
-
--- the position in the bytes from start to stop, past the bytes before start, with left of j after those: the bytes before stop have it, or
--- stop is their end
-pub position-from : (bytes : List ℕ) (x j left start stop : ℕ) → start ≤ length bytes → start ≤ stop → countOf x (take start bytes) + left ≡ j
-    → (stop < length bytes → left < countOf x (take (stop - start) (drop start bytes)))
-    → start + nth x left (take (stop - start) (drop start bytes)) ≡ nth x j bytes
-position-from bytes x j left start stop here after is past =
-    let rest : j - countOf x (take start bytes) ≡ left = omega arith in
-    let whole : start + (stop - start) ≡ stop = omega arith in
-    rw (← rest)
-    (sym (nth-part x j start (stop - start) bytes here (omega arith)
-    (λ (k : start + (stop - start) < length bytes). omega (arith, count-part x start (stop - start) bytes, past (omega arith)))))
 
 -- ---- the two searches of `nth`
 

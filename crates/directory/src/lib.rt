@@ -39,45 +39,6 @@ pub fn count_in(part: &[u8], byte: u8) -> usize
     found
 }
 
-// The position in a piece of a block of the occurrence of a byte that has j others before it, past
-// which no byte is read; the piece's length where there is none.
-fn scan_piece(piece: &[u8], byte: u8, j: usize) -> usize
-    ensures { λ r. ⌜ r ≡ nthOf byte j (now (piece .entry)) ⌝ }
-{
-    let mut left = j;
-    let mut i = 0;
-    while i < piece.len() {
-        if piece[i] == byte {
-            if left == 0 {
-                return i;
-            }
-            left -= 1;
-        }
-        i += 1;
-    }
-    i
-}
-
-// The position in a block of the occurrence of a byte that has j others before it; the block's
-// length where there is none. Pieces of 64 bytes are counted, and the one with the occurrence is read
-// byte by byte.
-pub fn scan(block: &[u8], byte: u8, j: usize) -> usize
-    ensures { λ r. ⌜ r ≡ nthOf byte j (now (block .entry)) ⌝ }
-{
-    let mut left = j;
-    let mut start: usize = 0;
-    while 64 < block.len() - start {
-        let stop = start + 64;
-        let here = count_few(&block[start..stop], byte) as usize;
-        if left < here {
-            return start + scan_piece(&block[start..stop], byte, left);
-        }
-        left -= here;
-        start = stop;
-    }
-    start + scan_piece(&block[start..], byte, left)
-}
-
 // A `u32` as a `usize`.
 fn widen_u32(number: u32) -> usize
     ensures { λ r. ⌜ r ≡ number ⌝ }
@@ -247,6 +208,8 @@ pub fn nth(
     let rest = left - block_at(blocks, row, byte);
     let start = row * block;
     let stop = base::least(start + block, bytes.len());
-    let at = start + scan(&bytes[start..stop], byte, rest);
+    let scanned = block_scan::scan(&bytes[start..stop], byte, rest);
+    let stands = scanned.stands;
+    let at = start + block_scan::position_of(stands, stop - start);
     Occurrence { at, superblock }
 }

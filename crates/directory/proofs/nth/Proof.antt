@@ -1,13 +1,17 @@
 -- `directory::nth` meets its contract. The two searches find the block that holds the occurrence, and the scan its position in the block. Assumes nothing.
-use Prim.Native.Nat.{_+_, _*_, _-_}
-use mathlib.Core.Path.{_≡_}
+use Prim.Native.Nat.{ℕ, _+_, _*_, _-_}
+use mathlib.Core.Path.{_≡_, ap, _∙_}
+use mathlib.Core.List.{List}
 use native.Mathlib.Omega.{arith}
 use borrow.Author.Needs.{needs}
-use lib.ListN.{take}
+use lib.ListN.{length, take, drop, length-take, length-drop}
 use Rattle.base.specs.Lists.{countOf, nth}
 use Rattle.base.proofs.Counts.{nth-most}
 use Rattle.directory.proofs.Rows.{rows-most, block-most, superblock-rows}
 use Rattle.directory.proofs.Searches.{Holds, position, superblock-holds, zero-most, first-inside, first-most, both-of, block-holds}
+use Rattle.block_scan.specs.declared.Scanned.{Scanned}
+use Rattle.block_scan.specs.BlockScans.{scanOf, positionOf}
+use Rattle.block_scan.proofs.BlockScans.{scan-position}
 use Rattle.directory.proofs.nth.Statement.{statement}
 use Rattle.directory.proofs.nth.Tie as tie
 
@@ -38,11 +42,20 @@ left c =
     omega (arith, t)
 
 -- the answer
-found : (c : tie.After-scan) → let a = c .before .before .before .before .before .before .before .before .before .before .before .args in c .before .before .before .before .search-blocks .result * a .block + c .scan .result ≡ nth (a .byte) (a .j) (a .bytes .now)
+found : (c : tie.After-position-of) → let a = c .before .before .before .before .before .before .before .before .before .before .before .before .args in c .before .before .before .before .before .search-blocks .result * a .block + c .position-of .result ≡ nth (a .byte) (a .j) (a .bytes .now)
 found c =
-    let a = c .before .before .before .before .before .before .before .before .before .before .before .args in
-    rw (c .scan .ensures, left (c .before .before .before))
-    (position (c .before .before .least2 .result) (in-block (c .before .before .before .before)) (c .before .before .least2 .ensures))
+    let k = c .before .before .before .before in
+    let a = k .before .before .before .before .before .before .before .before .args in
+    let start : ℕ = k .before .search-blocks .result * a .block in
+    let stop : ℕ = c .before .before .before .least2 .result in
+    let rest : ℕ = a .j - k .before .before .before .superblock-at .result - k .block-at .result in
+    let part : List ℕ = take (stop - start) (drop start (a .bytes .now)) in
+    let size : stop - start ≡ length part =
+    omega (arith, length-take (stop - start) (drop start (a .bytes .now)), length-drop start (a .bytes .now), c .before .before .before .least2 .ensures) in
+    let e : c .position-of .result ≡ nth (a .byte) rest part =
+    c .position-of .ensures ∙ ap (λ (r : Scanned). positionOf (r .stands) (stop - start)) (c .before .scan .ensures)
+    ∙ ap (λ (n : ℕ). positionOf (scanOf (a .byte) rest part .stands) n) size ∙ scan-position (a .byte) rest part in
+    rw (e, left k) (position stop (in-block (k .before)) (c .before .before .before .least2 .ensures))
 
 superblock-near-requires : tie.Need-superblock-near-requires
 superblock-near-requires c κs =
@@ -109,9 +122,15 @@ part-scan-end c = search needs
 scan-requires : tie.Need-scan-requires
 scan-requires c κs = search needs
 
+position-of-requires : tie.Need-position-of-requires
+position-of-requires c κs = search needs
+
+sub-position-of : tie.Need-sub-position-of
+sub-position-of c = sub-scan (c .before .before)
+
 add-at : tie.Need-add-at
 add-at c =
-    let a = c .before .before .before .before .before .before .before .before .before .before .before .args in
+    let a = c .before .before .before .before .before .before .before .before .before .before .before .before .args in
     omega (arith, found c, nth-most (a .byte) (a .j) (a .bytes .now))
 
 returns : tie.Need-returns
@@ -137,5 +156,7 @@ nth-spec =
     part-scan-start
     part-scan-end
     scan-requires
+    sub-position-of
+    position-of-requires
     add-at
     returns)

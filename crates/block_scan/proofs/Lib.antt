@@ -1,0 +1,3 @@
+pub mod BlockScans
+pub mod Looks
+pub mod Theorem

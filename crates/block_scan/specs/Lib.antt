@@ -1,0 +1,2 @@
+pub mod BlockScans
+pub mod Laws
