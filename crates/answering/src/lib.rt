@@ -106,10 +106,9 @@ fn answer_place(
     if p < 1 {
         return Answer::refused(refusal::PLACE);
     }
-    if words::frequency(s, shape, lengths, bytes, superblocks, blocks, starts, rank) < p {
-        return Answer::refused(refusal::PLACE);
-    }
-    let place = words::place_of(
+    let way = words::way_of(s, shape, lengths, bytes, superblocks, blocks, starts, rank);
+    let first = way.first;
+    let often = words::frequency_by(
         s,
         shape,
         lengths,
@@ -118,9 +117,26 @@ fn answer_place(
         blocks,
         starts,
         rank,
+        first,
+    );
+    if often < p {
+        return Answer::refused(refusal::PLACE);
+    }
+    let near = words::nowhere(superblocks);
+    let next = words::place_along(
+        s,
+        shape,
+        lengths,
+        bytes,
+        superblocks,
+        blocks,
+        starts,
+        rank,
+        way,
+        near,
         p - 1,
     );
-    Answer::accepted(place.0)
+    Answer::accepted(next.place.0)
 }
 
 // Kind 4: how often a word has another at an offset.

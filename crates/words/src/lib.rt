@@ -9,7 +9,7 @@ ghost use mathlib.Core.Path.{_≡_};
 ghost use Prim.Native.Nat.{_≤_, _<_};
 ghost use lib.ListN.{length, getD, take};
 ghost use Rattle.base.specs.Lists.{countOf, nth};
-ghost use Rattle.tree.specs.Nodes.{position};
+ghost use Rattle.tree.specs.Nodes.{position, nodeOf, closingByte};
 ghost use Rattle.index.specs.Arrays.{Arrays, arrays, textIn};
 ghost use Rattle.words.specs.Words.{rankAt, occurrencesBelow, frequency};
 ghost use Rattle.words.specs.Ready.{nodeFrom, Counted, Ready, WordsOf};
@@ -33,29 +33,6 @@ fn byte_at(bytes: &[u8], starts: &[u32], node: usize, at: Position) -> u8
 {
     let start = starts[node] as usize;
     bytes[start + at.0]
-}
-
-// How often a byte stands below a position of a node: so often it stands below the position in all
-// bytes, less those before the node. For a byte that leads on it is the position in its child.
-fn count_in_node(
-    shape: Shape,
-    bytes: &[u8],
-    superblocks: &[u32],
-    blocks: &[u16],
-    starts: &[u32],
-    node: usize,
-    byte: u8,
-    at: Position,
-) -> usize
-    requires { ⌜ Counted shape (now bytes) (now superblocks) (now blocks) (now starts) node × (at .0 ≤ length (nodeFrom (now bytes) (now starts) node)) ⌝ }
-    ensures { λ r. ⌜ r ≡ countOf byte (take (at .0) (nodeFrom (now (bytes .entry)) (now (starts .entry)) node)) ⌝ }
-{
-    let start = starts[node] as usize;
-    let block = shape.block;
-    let per = shape.per_superblock;
-    let before = directory::count_below(bytes, superblocks, blocks, block, per, byte, start);
-    let below = directory::count_below(bytes, superblocks, blocks, block, per, byte, start + at.0);
-    below - before
 }
 
 // A step of the way from a word up to the root: a byte is looked for in a node, and stands so often
@@ -88,6 +65,48 @@ fn step_in(
         byte,
         skipped,
     }
+}
+
+// How often the byte of a step stands below a position of its node: so often it stands below the
+// position in all bytes, less those before the node.
+fn count_in_step(
+    shape: Shape,
+    bytes: &[u8],
+    superblocks: &[u32],
+    blocks: &[u16],
+    starts: &[u32],
+    step: Step,
+    at: Position,
+) -> usize
+    requires { ⌜ Counted shape (now bytes) (now superblocks) (now blocks) (now starts) (step .node) × StepIn (now bytes) (now starts) (step .node) (step .byte) step × (at .0 ≤ length (nodeFrom (now bytes) (now starts) (step .node))) ⌝ }
+    ensures { λ r. ⌜ r ≡ countOf (step .byte) (take (at .0) (nodeFrom (now (bytes .entry)) (now (starts .entry)) (step .node))) ⌝ }
+{
+    let node = step.node;
+    let start = starts[node] as usize;
+    let block = shape.block;
+    let per = shape.per_superblock;
+    let byte = step.byte;
+    let below = directory::count_below(bytes, superblocks, blocks, block, per, byte, start + at.0);
+    below - step.skipped
+}
+
+// How often a byte stands below a position of a node. For a byte that leads on it is the position in
+// its child.
+fn count_in_node(
+    shape: Shape,
+    bytes: &[u8],
+    superblocks: &[u32],
+    blocks: &[u16],
+    starts: &[u32],
+    node: usize,
+    byte: u8,
+    at: Position,
+) -> usize
+    requires { ⌜ Counted shape (now bytes) (now superblocks) (now blocks) (now starts) node × (at .0 ≤ length (nodeFrom (now bytes) (now starts) node)) ⌝ }
+    ensures { λ r. ⌜ r ≡ countOf byte (take (at .0) (nodeFrom (now (bytes .entry)) (now (starts .entry)) node)) ⌝ }
+{
+    let step = step_in(shape, bytes, superblocks, blocks, starts, node, byte);
+    count_in_step(shape, bytes, superblocks, blocks, starts, step, at)
 }
 
 // What a step finds: a position in its node, and the superblock row in which it lies.
@@ -224,7 +243,31 @@ pub fn occurrences_below(
     count_in_node(shape, bytes, superblocks, blocks, starts, node, byte, at)
 }
 
-// How often a rank stands in the text: so often its closing byte stands in its node.
+// How often a rank stands in the text, by the first step of its way: so often its closing byte stands
+// in its node.
+pub fn frequency_by(
+    s: usize,
+    shape: Shape,
+    lengths: &[u32],
+    bytes: &[u8],
+    superblocks: &[u32],
+    blocks: &[u16],
+    starts: &[u32],
+    rank: usize,
+    first: Step,
+) -> usize
+    ghost { Arrays }
+    requires { λ a. ⌜ arrays (now lengths) (now bytes) (now superblocks) (now blocks) ≡ a ⌝ }
+    requires { λ a. ⌜ Ready s shape a (now starts) × (rank < shape .vocabulary) × StepIn (a .bytes) (now starts) (nodeOf s rank) (closingByte s rank) first ⌝ }
+    ensures { λ a r. ⌜ r ≡ frequency (textIn s a) rank ⌝ }
+{
+    let node = first.node;
+    let size = lengths[node] as usize;
+    let end = Position(size);
+    count_in_step(shape, bytes, superblocks, blocks, starts, first, end)
+}
+
+// How often a rank stands in the text.
 pub fn frequency(
     s: usize,
     shape: Shape,
@@ -242,9 +285,18 @@ pub fn frequency(
 {
     let node = tree::node_of(s, rank);
     let byte = tree::closing_byte(s, rank);
-    let size = lengths[node] as usize;
-    let end = Position(size);
-    count_in_node(shape, bytes, superblocks, blocks, starts, node, byte, end)
+    let first = step_in(shape, bytes, superblocks, blocks, starts, node, byte);
+    frequency_by(
+        s,
+        shape,
+        lengths,
+        bytes,
+        superblocks,
+        blocks,
+        starts,
+        rank,
+        first,
+    )
 }
 
 // The way of a rank from the node where its codeword ends up to the root: as many steps as its
@@ -411,39 +463,4 @@ pub fn place_along(
             third: high.superblock,
         },
     }
-}
-
-// The place at which a rank stands with j others of it before it.
-pub fn place_of(
-    s: usize,
-    shape: Shape,
-    lengths: &[u32],
-    bytes: &[u8],
-    superblocks: &[u32],
-    blocks: &[u16],
-    starts: &[u32],
-    rank: usize,
-    j: usize,
-) -> Place
-    ghost { Arrays }
-    requires { λ a. ⌜ arrays (now lengths) (now bytes) (now superblocks) (now blocks) ≡ a ⌝ }
-    requires { λ a. ⌜ Ready s shape a (now starts) × (rank < shape .vocabulary) × (j < frequency (textIn s a) rank) ⌝ }
-    ensures { λ a r. ⌜ r .0 ≡ nth rank j (textIn s a) ⌝ }
-{
-    let way = way_of(s, shape, lengths, bytes, superblocks, blocks, starts, rank);
-    let near = nowhere(superblocks);
-    let next = place_along(
-        s,
-        shape,
-        lengths,
-        bytes,
-        superblocks,
-        blocks,
-        starts,
-        rank,
-        way,
-        near,
-        j,
-    );
-    next.place
 }

@@ -26,28 +26,38 @@ returns-2 c =
     let st = c .before .before .before .before .before .before .before .before .before in
     c .refused2 .ensures ∙ sym (place-outside (st .args .shape .vocabulary) _ (st .args .rank) (st .args .p) (c .before .before .if1 .left) (below-range 1 _ (st .args .p) (c .before .if2 .taken)))
 
-frequency-requires : tie.Need-frequency-requires
-frequency-requires c κs = search needs
+way-of-requires : tie.Need-way-of-requires
+way-of-requires c κs = search needs
+
+frequency-by-requires : tie.Need-frequency-by-requires
+frequency-by-requires c κs =
+    let st = c .before .before .before .before .before .before .before .before .before .before in
+    (st .pre, omega arith, c .before .way-of .ensures .first)
 
 refused-requires-3 : tie.Need-refused-requires-3
 refused-requires-3 c κs = search needs
 
 returns-3 : tie.Need-returns-3
 returns-3 c =
-    let st = c .before .before .before .before .before .before .before .before .before .before .before in
+    let st = c .before .before .before .before .before .before .before .before .before .before .before .before .before in
     let t = textIn (st .args .s) (arrays (st .args .lengths .now) (st .args .bytes .now) (st .args .superblocks .now) (st .args .blocks .now)) in
-    c .refused3 .ensures ∙ sym (place-outside (st .args .shape .vocabulary) t (st .args .rank) (st .args .p) (c .before .before .before .before .if1 .left) (above-range 1 (frequency t (st .args .rank)) (st .args .p) (omega (arith, c .before .before .frequency .ensures, c .before .if3 .taken))))
+    c .refused3 .ensures ∙ sym (place-outside (st .args .shape .vocabulary) t (st .args .rank) (st .args .p) (c .before .before .before .before .before .before .if1 .left) (above-range 1 (frequency t (st .args .rank)) (st .args .p) (omega (arith, c .before .before .frequency-by .ensures, c .before .if3 .taken))))
 
-place-of-requires : tie.Need-place-of-requires
-place-of-requires c κs = search needs
+nowhere-requires : tie.Need-nowhere-requires
+nowhere-requires c κs = search needs
+
+place-along-requires : tie.Need-place-along-requires
+place-along-requires c κs =
+    let st = c .before .before .before .before .before .before .before .before .before .before .before .before .before in
+    (st .pre, c .before .before .before .before .before .before .if1 .left, c .before .before .before .before .way-of .ensures, omega (arith, c .before .before .frequency-by .ensures, c .before .if3 .left, c .before .before .before .before .before .if2 .left))
 
 accepted-requires : tie.Need-accepted-requires
 accepted-requires c κs = search needs
 
 returns-4 : tie.Need-returns-4
 returns-4 c =
-    let st = c .before .before .before .before .before .before .before .before .before .before .before .before in
-    c .accepted .ensures ∙ ap accepted (c .before .place-of .ensures) ∙ sym (place-inside (st .args .shape .vocabulary) _ (st .args .rank) (st .args .p) (c .before .before .before .before .before .if1 .left) (c .before .before .before .before .if2 .left) (omega (arith, c .before .before .before .frequency .ensures, c .before .before .if3 .left)))
+    let st = c .before .before .before .before .before .before .before .before .before .before .before .before .before .before .before in
+    c .accepted .ensures ∙ ap accepted (c .before .place-along .ensures) ∙ sym (place-inside (st .args .shape .vocabulary) _ (st .args .rank) (st .args .p) (c .before .before .before .before .before .before .before .before .if1 .left) (c .before .before .before .before .before .before .before .if2 .left) (omega (arith, c .before .before .before .before .frequency-by .ensures, c .before .before .before .if3 .left)))
 
 pub answer-place-spec : {M : Type 1} → statement M
 answer-place-spec =
@@ -57,9 +67,11 @@ answer-place-spec =
     returns
     refused-requires-2
     returns-2
-    frequency-requires
+    way-of-requires
+    frequency-by-requires
     refused-requires-3
     returns-3
-    place-of-requires
+    nowhere-requires
+    place-along-requires
     accepted-requires
     returns-4)
