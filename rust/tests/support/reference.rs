@@ -293,6 +293,23 @@ pub fn check(shape: Shape, arrays: &Arrays) -> Answer {
     }
 }
 
+// ---- scans
+
+/// The position in a block of the occurrence of a byte that has j others before it, none where there is none, and how many bytes are read: those
+/// through the occurrence, or all.
+pub fn scan(block: &[u8], byte: u8, j: usize) -> (Option<usize>, usize) {
+    let mut others = 0;
+    for (at, &here) in block.iter().enumerate() {
+        if here == byte {
+            if others == j {
+                return (Some(at), at + 1);
+            }
+            others += 1;
+        }
+    }
+    (None, block.len())
+}
+
 // ---- questions
 
 /// The phrase in a part of the lent words; 8 or 9 where it is none.
