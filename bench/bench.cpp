@@ -9,22 +9,15 @@
 #include <sqlite3.h>
 
 #include "../include/concordance.h"
+#include "asked.hpp"
 #include "inverted.hpp"
 #include "measure.hpp"
 #include "text.hpp"
 #include "twin.hpp"
 
-static const uint32_t vocabulary = 100000;
 // How often each thing is run, by the engine and by the other; the least time counts. An index of another program is built once.
 static const int runs = 9;
 static Table table;
-
-static void must(bool holds, const char *what) {
-    if (!holds) {
-        std::fprintf(stderr, "%s: refused, or not the same answer\n", what);
-        std::exit(1);
-    }
-}
 
 struct Engine {
     concordance_shape shape;
@@ -63,35 +56,7 @@ struct Engine {
     }
 };
 
-// What is asked: places, words by how often they are drawn, pairs of words and phrases that stand in the text.
-struct Asked {
-    std::vector<uint32_t> words;
-    std::vector<concordance_question> kinds[6];
-};
-
-static Asked questions(const std::vector<uint32_t> &text, const twin::Index &index, uint64_t seed) {
-    std::mt19937_64 random(seed);
-    Asked asked;
-    const size_t n = text.size();
-    for (int i = 0; i < 20000; i++) {
-        const uint32_t w = text[random() % n];
-        asked.kinds[1].push_back({1, 0, 0, 0, random() % n, 0, 0});
-        asked.kinds[2].push_back({2, w, 0, 0, random() % n, 0, 0});
-        asked.kinds[3].push_back({3, w, 0, 0, 1 + random() % index.frequency(w), 0, 0});
-    }
-    while (asked.kinds[5].size() < 400) {
-        const size_t m = 2 + random() % 3, at = random() % (n - m);
-        uint32_t least = UINT32_MAX;
-        for (size_t i = 0; i < m; i++) least = std::min(least, index.frequency(text[at + i]));
-        if (least > 50000) continue;
-        asked.kinds[4].push_back({4, text[at], text[at + 1], 1, 0, 0, 0});
-        asked.kinds[5].push_back({5, 0, 0, 0, 0, asked.words.size(), m});
-        asked.words.insert(asked.words.end(), text.begin() + at, text.begin() + at + m);
-    }
-    return asked;
-}
-
-static uint32_t answer(const twin::Index &index, const concordance_question &q, const Asked &asked) {
+template <class Index> static uint32_t answer(const Index &index, const concordance_question &q, const Asked &asked) {
     switch (q.kind) {
         case 1: return index.word_at(q.p);
         case 2: return index.occurrences_below(q.w, q.p);
@@ -99,10 +64,6 @@ static uint32_t answer(const twin::Index &index, const concordance_question &q, 
         case 4: return index.neighbours(q.w, q.v, q.d);
         default: return index.phrase(&asked.words[q.start], q.length);
     }
-}
-
-static std::string sheet_of(int kind, const Asked &asked) {
-    return "sheet of kind " + std::to_string(kind) + ", " + std::to_string(asked.kinds[kind].size()) + " questions";
 }
 
 // Times a sheet of one kind by the engine and another program that answers its questions, and compares the answers.
@@ -125,22 +86,30 @@ static void beside(const Engine &engine, const Asked &asked, int kind, const std
     });
 }
 
-// The sheets of the five kinds: the check is paid once in each, by the engine and by the twin.
-static void sheets(const Engine &engine, const Asked &asked) {
-    for (int kind = 1; kind <= 5; kind++) {
-        const auto &qs = asked.kinds[kind];
-        sheet(engine, asked, kind, sheet_of(kind, asked), "twin", [&](std::vector<uint32_t> &theirs) {
-            must(twin::check(engine.a, vocabulary), "check");
-            const twin::Index index(engine.a);
-            for (size_t i = 0; i < qs.size(); i++) theirs[i] = answer(index, qs[i], asked);
-        });
-    }
+// The twin with the scan that reads past the occurrence.
+using ByPieces = twin::Index<twin::scan_by_pieces>;
+static const char *const by_pieces = "scan by pieces, which reads past the hit";
+
+// A sheet of one kind beside a twin: the check is paid once, by the engine and by the twin.
+template <class Index> static void sheet_beside(const Engine &engine, const Asked &asked, int kind, const char *other) {
+    const auto &qs = asked.kinds[kind];
+    sheet(engine, asked, kind, sheet_of(kind, asked), other, [&](std::vector<uint32_t> &theirs) {
+        must(twin::check(engine.a, vocabulary), "check");
+        const Index index(engine.a);
+        for (size_t i = 0; i < qs.size(); i++) theirs[i] = answer(index, qs[i], asked);
+    });
 }
 
-// The first page of a phrase of two words that stands in the text.
-static void pages(const Engine &engine, const Asked &asked) {
-    const uint32_t *phrase = &asked.words[asked.kinds[5][0].start];
-    std::vector<uint32_t> ours(20), theirs(20);
+// The sheets of the five kinds; kinds 3 to 5 search for occurrences, and are measured beside both scans.
+static void sheets(const Engine &engine, const Asked &asked) {
+    for (int kind = 1; kind <= 5; kind++) sheet_beside<twin::Index<>>(engine, asked, kind, "twin");
+    for (int kind = 3; kind <= 5; kind++) sheet_beside<ByPieces>(engine, asked, kind, by_pieces);
+}
+
+// The first page of a phrase of two words that stands in the text, beside a twin.
+template <class Index> static void page_beside(const Engine &engine, const Asked &asked, const char *other) {
+    const uint32_t *phrase = asked.listed();
+    std::vector<uint32_t> ours(page_lines), theirs(page_lines);
     concordance_page page;
     uint32_t count = 0;
     bool more = false;
@@ -148,10 +117,10 @@ static void pages(const Engine &engine, const Asked &asked) {
         runs, [&] { page = engine.page(concordance_open(), phrase, 2, ours); },
         [&] {
             must(twin::check(engine.a, vocabulary), "check");
-            more = twin::Index(engine.a).page(phrase, 2, 0, theirs, count);
+            more = Index(engine.a).page(phrase, 2, 0, theirs, count);
         });
     must(page.answer.refusal == 0 && page.answer.value == count && page.more == more && ours == theirs, "page");
-    table.add(engine.a.lengths[0], "a page with room for 20 lines", time.one, "twin", time.other);
+    table.add(engine.a.lengths[0], page_of(page_lines), time.one, other, time.other);
 }
 
 // The first page of the phrase of no words and its count, beside the twin and beside the check alone, which is all that they take but for the
@@ -476,9 +445,10 @@ static void measure(size_t n, uint32_t block, uint32_t per, bool peers) {
     table.add(n, "check", counted.one, "plain histogram", counted.other);
     std::printf("the index: B %u, b %u, %.2f bytes a word, of which %.2f are node bytes (%llu)\n", block, per, double(made.space()) / n,
                 double(made.bytes.size()) / n, (unsigned long long)sum % 10);
-    const Asked asked = questions(text, twin::Index(engine.a), 7);
+    const Asked asked = questions(text, 7);
     sheets(engine, asked);
-    pages(engine, asked);
+    page_beside<twin::Index<>>(engine, asked, "twin");
+    page_beside<ByPieces>(engine, asked, by_pieces);
     no_words(engine, asked);
     passages(engine, text);
     reading(text);
@@ -522,7 +492,7 @@ int main(int count, char **arguments) {
     const bool given = count > 2;
     std::printf("| words | measured | engine, ms | beside | its time, ms | ratio |\n|---|---|---|---|---|---|\n");
     for (size_t n : {1000000, 4000000, 16000000}) {
-        measure(n, given ? std::atoi(arguments[1]) : 1024, given ? std::atoi(arguments[2]) : 8, !given);
+        measure(n, given ? std::atoi(arguments[1]) : 848, given ? std::atoi(arguments[2]) : 64, !given);
     }
     for (uint32_t words : {6000, 50}) making(words);
     letter_checks();

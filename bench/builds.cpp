@@ -4,30 +4,18 @@
 //   gcc -shared -o target/before.so -Wl,--whole-archive BEFORE.a -Wl,--no-whole-archive
 //   gcc -shared -o target/after.so -Wl,--whole-archive target/staticlib/libconcordance.a -Wl,--no-whole-archive
 //   g++ -O2 -std=c++17 -Iinclude bench/builds.cpp -o target/builds && target/builds target/before.so target/after.so
+#include "archives.hpp"
 #include "concordance.h"
 #include "text.hpp"
 
 #include <algorithm>
 #include <chrono>
-#include <cstdio>
-#include <cstdlib>
-#include <dlfcn.h>
 #include <vector>
-
-static void *found(void *library, const char *name) {
-    void *entry = library ? dlsym(library, name) : nullptr;
-    if (!entry) {
-        std::printf("%s is missing\n", name);
-        std::exit(1);
-    }
-    return entry;
-}
 
 int main(int count, char **files) {
     if (count != 3) return 1;
-    using Build = decltype(&concordance_build);
-    Build build[2];
-    for (int i = 0; i < 2; i++) build[i] = (Build)found(dlopen(files[i + 1], RTLD_NOW), "concordance_build");
+    decltype(&concordance_build) build[2];
+    for (int i = 0; i < 2; i++) find(build[i], dlopen(files[i + 1], RTLD_NOW), "concordance_build");
     const concordance_shape shape = {100000, 1024, 8};
     for (size_t words : {1000000, 4000000, 16000000}) {
         const std::vector<uint32_t> text = zipf_text(words, shape.vocabulary, 20261115);

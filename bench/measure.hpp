@@ -1,10 +1,19 @@
-// Times of calls in one run, and the table that they are printed in.
+// Times of calls in one run, whose answers must hold, and the table that they are printed in.
 #pragma once
 #include <algorithm>
 #include <chrono>
 #include <cstdio>
+#include <cstdlib>
 #include <string>
 #include <vector>
+
+// Ends the run where something does not hold.
+inline void must(bool holds, const char *what) {
+    if (!holds) {
+        std::fprintf(stderr, "%s: refused, or not the same answer\n", what);
+        std::exit(1);
+    }
+}
 
 // The seconds of one call: the least of some runs.
 template <class Call> double seconds(int runs, Call call) {

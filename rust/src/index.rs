@@ -30,7 +30,7 @@ impl Shape {
     /// The block lengths that were measured to be good in space and in time (docs/BENCHMARKS.md). They are the same for texts of every
     /// size.
     pub fn for_text(vocabulary: usize) -> Shape {
-        Shape { vocabulary, block: 1024, per_superblock: 8 }
+        Shape { vocabulary, block: 848, per_superblock: 64 }
     }
 }
 
