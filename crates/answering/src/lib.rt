@@ -3,11 +3,13 @@
 // No function of this crate is an entry: each requires what its callers have tested.
 ghost use Prim.Native.Nat.{ℕ, _≤_};
 ghost use mathlib.Core.Path.{_≡_};
+ghost use mathlib.Core.Bool.{true};
 ghost use mathlib.Core.List.{List};
 ghost use lib.ListN.{length};
 ghost use Rattle.base.specs.Texts.{maxWords};
 ghost use Rattle.index.specs.Arrays.{Arrays, arrays, textIn};
 ghost use Rattle.words.specs.Ready.{Ready};
+ghost use Rattle.documents.specs.Documents.{isAscending};
 ghost use Rattle.questions.specs.Answering.{phraseRefusal, wordAtAnswer, occurrencesAnswer, placeAnswer, neighboursAnswer, phraseAnswer, questionAnswer};
 use base::Answer;
 use base::refusal;
@@ -139,7 +141,7 @@ fn answer_place(
     Answer::accepted(next.place.0)
 }
 
-// Kind 4: how often a word has another at an offset.
+// Kind 4: how often a word has another at an offset in one document.
 fn answer_neighbours(
     s: usize,
     shape: Shape,
@@ -148,14 +150,15 @@ fn answer_neighbours(
     superblocks: &[u32],
     blocks: &[u16],
     starts: &[u32],
+    documents: &[u32],
     w: u32,
     v: u32,
     offset: i32,
 ) -> Answer
     ghost { Arrays }
     requires { λ a. ⌜ arrays (now lengths) (now bytes) (now superblocks) (now blocks) ≡ a ⌝ }
-    requires { λ a. ⌜ Ready s shape a (now starts) ⌝ }
-    ensures { λ a r. ⌜ r ≡ neighboursAnswer (shape .vocabulary) (textIn s a) w v offset ⌝ }
+    requires { λ a. ⌜ Ready s shape a (now starts) × (isAscending (now documents) ≡ true) ⌝ }
+    ensures { λ a r. ⌜ r ≡ neighboursAnswer (shape .vocabulary) (textIn s a) (now (documents .entry)) w v offset ⌝ }
 {
     if shape.vocabulary <= w as usize {
         return Answer::refused(refusal::ASKED_RANK);
@@ -177,6 +180,7 @@ fn answer_neighbours(
         superblocks,
         blocks,
         starts,
+        documents,
         w,
         v,
         offset,
@@ -210,7 +214,7 @@ pub fn phrase_refusal(vocabulary: usize, words: &[u32], start: usize, count: usi
 // starts among the lent words or at their end.
 pub fn answer_no_words(words: &[u32], start: usize, n: usize) -> Answer
     requires { ⌜ n ≤ maxWords ⌝ }
-    ensures { λ r. ⌜ ((vocab : ℕ) (t : List ℕ) → length t ≡ n → r ≡ phraseAnswer vocab t (now (words .entry)) start 0) ⌝ }
+    ensures { λ r. ⌜ ((vocab : ℕ) (t documents : List ℕ) → length t ≡ n → r ≡ phraseAnswer vocab t documents (now (words .entry)) start 0) ⌝ }
 {
     if start <= words.len() {
         return Answer::accepted(n + 1);
@@ -218,7 +222,7 @@ pub fn answer_no_words(words: &[u32], start: usize, n: usize) -> Answer
     Answer::refused(refusal::PHRASE)
 }
 
-// Kind 5: how often a phrase stands.
+// Kind 5: how often a phrase stands inside one document.
 fn answer_phrase(
     s: usize,
     shape: Shape,
@@ -227,14 +231,15 @@ fn answer_phrase(
     superblocks: &[u32],
     blocks: &[u16],
     starts: &[u32],
+    documents: &[u32],
     words: &[u32],
     start: usize,
     count: usize,
 ) -> Answer
     ghost { Arrays }
     requires { λ a. ⌜ arrays (now lengths) (now bytes) (now superblocks) (now blocks) ≡ a ⌝ }
-    requires { λ a. ⌜ Ready s shape a (now starts) ⌝ }
-    ensures { λ a r. ⌜ r ≡ phraseAnswer (shape .vocabulary) (textIn s a) (now (words .entry)) start count ⌝ }
+    requires { λ a. ⌜ Ready s shape a (now starts) × (isAscending (now documents) ≡ true) ⌝ }
+    ensures { λ a r. ⌜ r ≡ phraseAnswer (shape .vocabulary) (textIn s a) (now (documents .entry)) (now (words .entry)) start count ⌝ }
 {
     if count == 0 {
         return answer_no_words(words, start, words::text_length(lengths));
@@ -252,6 +257,7 @@ fn answer_phrase(
         superblocks,
         blocks,
         starts,
+        documents,
         &words[start..end],
     ))
 }
@@ -265,13 +271,14 @@ pub fn answer(
     superblocks: &[u32],
     blocks: &[u16],
     starts: &[u32],
+    documents: &[u32],
     words: &[u32],
     question: Question,
 ) -> Answer
     ghost { Arrays }
     requires { λ a. ⌜ arrays (now lengths) (now bytes) (now superblocks) (now blocks) ≡ a ⌝ }
-    requires { λ a. ⌜ Ready s shape a (now starts) ⌝ }
-    ensures { λ a r. ⌜ r ≡ questionAnswer (shape .vocabulary) (textIn s a) (now (words .entry)) question ⌝ }
+    requires { λ a. ⌜ Ready s shape a (now starts) × (isAscending (now documents) ≡ true) ⌝ }
+    ensures { λ a r. ⌜ r ≡ questionAnswer (shape .vocabulary) (textIn s a) (now (documents .entry)) (now (words .entry)) question ⌝ }
 {
     let kind = question.kind;
     let w = question.w as usize;
@@ -294,6 +301,7 @@ pub fn answer(
             superblocks,
             blocks,
             starts,
+            documents,
             question.w,
             question.v,
             question.d,
@@ -308,6 +316,7 @@ pub fn answer(
             superblocks,
             blocks,
             starts,
+            documents,
             words,
             question.start,
             question.length,

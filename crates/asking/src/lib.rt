@@ -1,9 +1,9 @@
-// The entries that ask: a single question, and a passage, with 128 closing values in `ask` and
-// `passage`.
+// The entries that ask: a single question, with document starts or without, and a passage, with 128
+// closing values in `ask`, `ask_in_documents` and `passage`.
 ghost use mathlib.Core.Path.{_≡_};
 ghost use Rattle.dense.specs.Code.{Closing};
 ghost use Rattle.index.specs.Arrays.{arrays};
-ghost use Rattle.questions.specs.Answering.{askAnswer};
+ghost use Rattle.questions.specs.Answering.{askAnswerIn, askAnswer};
 ghost use Rattle.questions.specs.Passages.{passageAnswer, passageExit};
 use base::Answer;
 use base::refusal;
@@ -11,22 +11,31 @@ use index::Shape;
 use questions::Question;
 use tree::Place;
 
-// Asks a question of an index with s closing values: the answer is that of the papers. No table is
-// made for the phrase of no words.
-pub fn ask_of(
+// Asks a question of an index with s closing values and document starts: the answer is that of the
+// papers. No table is made for the phrase of no words.
+pub fn ask_in_documents_of(
     s: usize,
     shape: Shape,
     lengths: &[u32],
     bytes: &[u8],
     superblocks: &[u32],
     blocks: &[u16],
+    documents: &[u32],
     words: &[u32],
     question: Question,
 ) -> Answer
     requires { ⌜ Closing s ⌝ }
-    ensures { λ r. ⌜ r ≡ askAnswer s shape (arrays (now (lengths .entry)) (now (bytes .entry)) (now (superblocks .entry)) (now (blocks .entry))) (now (words .entry)) question ⌝ }
+    ensures { λ r. ⌜ r ≡ askAnswerIn s shape (arrays (now (lengths .entry)) (now (bytes .entry)) (now (superblocks .entry)) (now (blocks .entry))) (now (documents .entry)) (now (words .entry)) question ⌝ }
 {
-    let checked = checking::check_of(s, shape, lengths, bytes, superblocks, blocks);
+    let checked = document_checks::check_in_documents(
+        s,
+        shape,
+        lengths,
+        bytes,
+        superblocks,
+        blocks,
+        documents,
+    );
     if checked.refusal != 0 {
         return checked;
     }
@@ -44,6 +53,62 @@ pub fn ask_of(
         superblocks,
         blocks,
         &starts,
+        documents,
+        words,
+        question,
+    )
+}
+
+// Asks a question of an index with s closing values, whose text is one document.
+pub fn ask_of(
+    s: usize,
+    shape: Shape,
+    lengths: &[u32],
+    bytes: &[u8],
+    superblocks: &[u32],
+    blocks: &[u16],
+    words: &[u32],
+    question: Question,
+) -> Answer
+    requires { ⌜ Closing s ⌝ }
+    ensures { λ r. ⌜ r ≡ askAnswer s shape (arrays (now (lengths .entry)) (now (bytes .entry)) (now (superblocks .entry)) (now (blocks .entry))) (now (words .entry)) question ⌝ }
+{
+    let zero = [0u32; 1];
+    ask_in_documents_of(
+        s,
+        shape,
+        lengths,
+        bytes,
+        superblocks,
+        blocks,
+        documents::one_start(&zero, lengths),
+        words,
+        question,
+    )
+}
+
+// Asks a question of an index of the published code with document starts. Refusals 1, 3, 6 and 19,
+// then 7 to 11 as the kind needs; fields that the kind does not use never matter.
+pub fn ask_in_documents(
+    shape: Shape,
+    lengths: &[u32],
+    bytes: &[u8],
+    superblocks: &[u32],
+    blocks: &[u16],
+    documents: &[u32],
+    words: &[u32],
+    question: Question,
+) -> Answer
+    ensures { λ r. ⌜ r ≡ askAnswerIn 128 shape (arrays (now (lengths .entry)) (now (bytes .entry)) (now (superblocks .entry)) (now (blocks .entry))) (now (documents .entry)) (now (words .entry)) question ⌝ }
+{
+    ask_in_documents_of(
+        dense::CLOSING,
+        shape,
+        lengths,
+        bytes,
+        superblocks,
+        blocks,
+        documents,
         words,
         question,
     )

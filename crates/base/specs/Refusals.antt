@@ -46,7 +46,7 @@ refusalOffset = 10
 abbrev pub refusalPlace : ℕ
 refusalPlace = 11
 
--- a page has length 0, or an answer slice is shorter than two elements a question
+-- a page has length 0, an answer slice is shorter than two elements a question, or one of counts than one a document
 abbrev pub refusalPage : ℕ
 refusalPage = 12
 
@@ -73,3 +73,7 @@ refusalListMaking = 17
 -- a letter table breaks a rule
 abbrev pub refusalTable : ℕ
 refusalTable = 18
+
+-- document starts break a rule
+abbrev pub refusalDocuments : ℕ
+refusalDocuments = 19

@@ -34,7 +34,8 @@ pub const OFFSET: u32 = 10;
 // A place or ordinal is outside its range, or a listing's next place is above n.
 pub const PLACE: u32 = 11;
 
-// A page has length 0, or an answer slice is shorter than two elements a question.
+// A page has length 0, an answer slice is shorter than two elements a question, or one of counts
+// than one a document.
 pub const PAGE: u32 = 12;
 
 // A word list breaks a rule.
@@ -54,3 +55,6 @@ pub const LIST_MAKING: u32 = 17;
 
 // A letter table breaks a rule.
 pub const TABLE: u32 = 18;
+
+// Document starts break a rule.
+pub const DOCUMENTS: u32 = 19;

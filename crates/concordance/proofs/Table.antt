@@ -1,7 +1,8 @@
--- A local array of n numbers of 32 bits that a walk lends as a slice: it is made of zeros, lent to a callee that fills it, taken back, lent as a shared slice, and is room again at the end. It says nothing of the crate.
+-- A local array of n numbers of 32 bits that a walk lends as a slice: it is made of zeros, lent to a callee that fills it, taken back, lent as a shared slice, as it may be at once, and is room again at the end. It says nothing of the crate.
 --     zeros-typed      n times 0 is a value of the array's type
 --     lends-zeros      the local with n times 0, lent for κ as a `&κ mut [T]` of n elements.        What the lender keeps is `Denote/Lend.antt`'s `Held`, and `slice-back` takes the array back
 --     lends-shared     an array in memory, lent for κ as a `&κ [T]`.        What the lender keeps is the whole of it, and `Types/Tokens.antt`'s `lent-back` takes it back
+--     lends-zeros-shared       the local with n times 0, lent so
 --     array-room, shared-room      an array in memory is room for it
 -- Assumes `Given`.
 use mathlib.Core.Path.{_≡_, refl, sym, subst}
@@ -110,3 +111,19 @@ module _ {M : Type 1} (𝓤 : URA M) (H : Heap 𝓤) (A : Atoms 𝓤) (W : Given
       rewrite ! 0 (λ (k : ℕ). ‵ (ShrSlice ℓ κ u32 .own (record { ptr = (l, 0); name = γ; now = ys }) (sliceVal (l, 0) k ∷ []))) e refl $
       at-once ! $ show ! (λ (γ′ : GName). mean 𝓤 H A (given (length ys ≡ n)
       (‵ (ShrSlice ℓ κ u32 .own (record { ptr = (l, 0); name = γ′; now = ys }) (sliceVal (l, 0) n ∷ [])) ⊛ ‵ (flent κ (arr-parts (shares u32) (length ys) .part fullShare ys l 0))))) γ $ check ! e $ done !))
+
+  -- the local with n times 0 is lent for κ as a shared slice
+  pub lends-zeros-shared : (ℓ : Lifetime) (κ : Lft) → Room u32 n
+      → ent 𝓤 (H .at fullShare (tyArray word n) l 0 (values n))
+      (mean 𝓤 H A (later (some (λ (γ : GName).
+      ‵ (ShrSlice ℓ κ u32 .own (record { ptr = (l, 0); name = γ; now = replicate n 0 }) (sliceVal (l, 0) n ∷ [])) ⊛ ‵ (flent κ (arr-parts (shares u32) (length {A = ℕ} (replicate n 0)) .part fullShare (replicate n 0) l 0))))))
+  lends-zeros-shared ℓ κ room =
+      let e : length {A = ℕ} (replicate n 0) ≡ n = length-replicate n 0 in
+      qed W (‵ (fat fullShare (tyArray word n) l 0 (values n)) ∷ []) ∵ updating ! $
+      use1 W (‵ (arr-parts (shares u32) n .part fullShare (replicate n 0) l 0)) zeros-lie $
+      rewrite ! 0 (λ (k : ℕ). ‵ (arr-parts (shares u32) k .part fullShare (replicate n 0) l 0)) (sym e) refl $
+      use1 W (later (some (λ (γ : GName). ‵ (ShrSlice ℓ κ u32 .own (record { ptr = (l, 0); name = γ; now = replicate n 0 }) (sliceVal (l, 0) (length {A = ℕ} (replicate n 0)) ∷ [])) ⊛ ‵ (flent κ (arr-parts (shares u32) (length {A = ℕ} (replicate n 0)) .part fullShare (replicate n 0) l 0)))))
+      (lends-shr-slice 𝓤 H A W u32 ℓ κ fullShare (replicate n 0) l 0 (subst (Room u32) (sym e) room)) $ await ! tt $ pick ! (λ γ. split ! $
+      rewrite ! 0 (λ (k : ℕ). ‵ (ShrSlice ℓ κ u32 .own (record { ptr = (l, 0); name = γ; now = replicate n 0 }) (sliceVal (l, 0) k ∷ []))) e refl $
+      at-once ! $ show ! (λ (γ′ : GName). mean 𝓤 H A
+      (‵ (ShrSlice ℓ κ u32 .own (record { ptr = (l, 0); name = γ′; now = replicate n 0 }) (sliceVal (l, 0) n ∷ [])) ⊛ ‵ (flent κ (arr-parts (shares u32) (length {A = ℕ} (replicate n 0)) .part fullShare (replicate n 0) l 0)))) γ $ done !)

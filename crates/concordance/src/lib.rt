@@ -1,17 +1,19 @@
-// The entries of the engine under their C names, for C, C++ and Rust to link. Each but the sheet is
-// the entry of its crate, with the same contract; none has a `requires`.
+// The entries of the engine under their C names, for C, C++ and Rust to link. Each but the two of
+// a sheet is the entry of its crate, with the same contract; none has a `requires`.
 //
 // `include/concordance.h` declares them. A slice passes as a pointer and a length, and the structs
 // pass by value as C has them.
 ghost use mathlib.Core.Path.{_≡_};
 ghost use lib.ListN.{length};
 ghost use Rattle.dense.specs.Streams.{writeStreamAnswer, writeStreamExit, readStreamAnswer, readStreamExit};
-ghost use Rattle.index.specs.Arrays.{arrays};
+ghost use Rattle.index.specs.Arrays.{arrays, textIn};
 ghost use Rattle.index.specs.Entries.{buildAnswer, buildExit, checkAnswer};
 ghost use Rattle.measuring.specs.Sizes.{measuredOf, buildSizedAnswer, buildSizedExit};
-ghost use Rattle.questions.specs.Answering.{askAnswer};
+ghost use Rattle.documents.specs.Documents.{oneStart};
+ghost use Rattle.questions.specs.Answering.{askAnswerIn, askAnswer};
 ghost use Rattle.questions.specs.Passages.{passageAnswer, passageExit};
 ghost use Rattle.listing.specs.Paging.{opened, callOf, pageOf};
+ghost use Rattle.summaries.specs.Summaries.{summaryAnswer, summaryExit};
 ghost use Rattle.lexicon.specs.Letters.{letters};
 ghost use Rattle.lexicon.specs.Reading.{readTextAnswer, readTextExit};
 ghost use Rattle.list_calls.specs.Making.{listMade, makeListExit, makeRanksExit};
@@ -131,6 +133,34 @@ pub extern "C" fn concordance_ask(
     asking::ask(shape, lengths, bytes, superblocks, blocks, words, question)
 }
 
+// Asks a question of an index inside documents, whose starts it brings. Refusals 1, 3, 6, and 19 for
+// starts that break a rule, then 7 to 11 as the kind needs; fields that the kind does not use never
+// matter.
+#[no_mangle]
+pub extern "C" fn concordance_ask_in_documents(
+    shape: Shape,
+    lengths: &[u32],
+    bytes: &[u8],
+    superblocks: &[u32],
+    blocks: &[u16],
+    documents: &[u32],
+    words: &[u32],
+    question: Question,
+) -> Answer
+    ensures { λ r. ⌜ r ≡ askAnswerIn 128 shape (arrays (now (lengths .entry)) (now (bytes .entry)) (now (superblocks .entry)) (now (blocks .entry))) (now (documents .entry)) (now (words .entry)) question ⌝ }
+{
+    asking::ask_in_documents(
+        shape,
+        lengths,
+        bytes,
+        superblocks,
+        blocks,
+        documents,
+        words,
+        question,
+    )
+}
+
 // Answers a sheet of questions of an index: the check is made once, and then each question is
 // answered as `concordance_ask` answers it. The answer of the sheet is twice the number of its
 // questions; their pairs, the refusal or 0 and the value, stand in order in front of the slice, and
@@ -147,7 +177,40 @@ pub extern "C" fn concordance_answer_sheet(
     questions: &[Question],
     answers: &mut [u32],
 ) -> Answer
-    ensures { λ r. ⌜ (r ≡ sheetAnswer 128 shape (arrays (now (lengths .entry)) (now (bytes .entry)) (now (superblocks .entry)) (now (blocks .entry))) (length (now (questions .entry))) (length (now (answers .entry)))) × (now (answers .exit) ≡ sheetExit 128 shape (arrays (now (lengths .entry)) (now (bytes .entry)) (now (superblocks .entry)) (now (blocks .entry))) (now (words .entry)) (now (questions .entry)) (now (answers .entry))) ⌝ }
+    ensures { λ r. ⌜ (r ≡ sheetAnswer 128 shape (arrays (now (lengths .entry)) (now (bytes .entry)) (now (superblocks .entry)) (now (blocks .entry))) (oneStart (length (textIn 128 (arrays (now (lengths .entry)) (now (bytes .entry)) (now (superblocks .entry)) (now (blocks .entry)))))) (length (now (questions .entry))) (length (now (answers .entry)))) × (now (answers .exit) ≡ sheetExit 128 shape (arrays (now (lengths .entry)) (now (bytes .entry)) (now (superblocks .entry)) (now (blocks .entry))) (oneStart (length (textIn 128 (arrays (now (lengths .entry)) (now (bytes .entry)) (now (superblocks .entry)) (now (blocks .entry)))))) (now (words .entry)) (now (questions .entry)) (now (answers .entry))) ⌝ }
+{
+    let zero = [0u32; 1];
+    let documents = documents::one_start(&zero, lengths);
+    concordance_answer_sheet_in_documents(
+        shape,
+        lengths,
+        bytes,
+        superblocks,
+        blocks,
+        documents,
+        words,
+        questions,
+        answers,
+    )
+}
+
+// Answers a sheet of questions of an index inside documents, whose starts it brings: the check is
+// made once, and then each question is answered as `concordance_ask_in_documents` answers it.
+// Refusals 1, 3, 6, 19 for starts that break a rule, and 12 leave the slice as it was; else as
+// `concordance_answer_sheet`.
+#[no_mangle]
+pub extern "C" fn concordance_answer_sheet_in_documents(
+    shape: Shape,
+    lengths: &[u32],
+    bytes: &[u8],
+    superblocks: &[u32],
+    blocks: &[u16],
+    documents: &[u32],
+    words: &[u32],
+    questions: &[Question],
+    answers: &mut [u32],
+) -> Answer
+    ensures { λ r. ⌜ (r ≡ sheetAnswer 128 shape (arrays (now (lengths .entry)) (now (bytes .entry)) (now (superblocks .entry)) (now (blocks .entry))) (now (documents .entry)) (length (now (questions .entry))) (length (now (answers .entry)))) × (now (answers .exit) ≡ sheetExit 128 shape (arrays (now (lengths .entry)) (now (bytes .entry)) (now (superblocks .entry)) (now (blocks .entry))) (now (documents .entry)) (now (words .entry)) (now (questions .entry)) (now (answers .entry))) ⌝ }
 {
     let mut starts = [0u32; starts::MAX_STARTS];
     let answer = sheets::prepare(
@@ -157,6 +220,7 @@ pub extern "C" fn concordance_answer_sheet(
         bytes,
         superblocks,
         blocks,
+        documents,
         questions.len(),
         answers.len(),
         &mut starts,
@@ -174,6 +238,7 @@ pub extern "C" fn concordance_answer_sheet(
             superblocks,
             blocks,
             &starts,
+            documents,
             words,
             questions[i],
             answers,
@@ -223,7 +288,7 @@ pub extern "C" fn concordance_list(
     count: usize,
     lines: &mut [u32],
 ) -> Page
-    ensures { λ r. ⌜ (r ≡ pageOf (callOf 128 shape (arrays (now (lengths .entry)) (now (bytes .entry)) (now (superblocks .entry)) (now (blocks .entry))) (now (words .entry)) start count (now (lines .entry))) state .page) × (now (lines .exit) ≡ pageOf (callOf 128 shape (arrays (now (lengths .entry)) (now (bytes .entry)) (now (superblocks .entry)) (now (blocks .entry))) (now (words .entry)) start count (now (lines .entry))) state .lines) ⌝ }
+    ensures { λ r. ⌜ (r ≡ pageOf (callOf 128 shape (arrays (now (lengths .entry)) (now (bytes .entry)) (now (superblocks .entry)) (now (blocks .entry))) (oneStart (length (textIn 128 (arrays (now (lengths .entry)) (now (bytes .entry)) (now (superblocks .entry)) (now (blocks .entry)))))) (now (words .entry)) start count (now (lines .entry))) state .page) × (now (lines .exit) ≡ pageOf (callOf 128 shape (arrays (now (lengths .entry)) (now (bytes .entry)) (now (superblocks .entry)) (now (blocks .entry))) (oneStart (length (textIn 128 (arrays (now (lengths .entry)) (now (bytes .entry)) (now (superblocks .entry)) (now (blocks .entry)))))) (now (words .entry)) start count (now (lines .entry))) state .lines) ⌝ }
 {
     state.page(
         shape,
@@ -235,6 +300,72 @@ pub extern "C" fn concordance_list(
         start,
         count,
         lines,
+    )
+}
+
+// The next page of the listing of a phrase, which is a part of the lent words, inside documents,
+// whose starts it brings. Refusals 1, 3, 6, 19, 8, 9, 11 and 12 hand back the state and leave the
+// lines.
+#[no_mangle]
+pub extern "C" fn concordance_list_in_documents(
+    state: Listing,
+    shape: Shape,
+    lengths: &[u32],
+    bytes: &[u8],
+    superblocks: &[u32],
+    blocks: &[u16],
+    documents: &[u32],
+    words: &[u32],
+    start: usize,
+    count: usize,
+    lines: &mut [u32],
+) -> Page
+    ensures { λ r. ⌜ (r ≡ pageOf (callOf 128 shape (arrays (now (lengths .entry)) (now (bytes .entry)) (now (superblocks .entry)) (now (blocks .entry))) (now (documents .entry)) (now (words .entry)) start count (now (lines .entry))) state .page) × (now (lines .exit) ≡ pageOf (callOf 128 shape (arrays (now (lengths .entry)) (now (bytes .entry)) (now (superblocks .entry)) (now (blocks .entry))) (now (documents .entry)) (now (words .entry)) start count (now (lines .entry))) state .lines) ⌝ }
+{
+    state.page_in_documents(
+        shape,
+        lengths,
+        bytes,
+        superblocks,
+        blocks,
+        documents,
+        words,
+        start,
+        count,
+        lines,
+    )
+}
+
+// Counts a phrase, which is a part of the lent words, in each document: one element a document to the
+// front of a slice, and the rest stays. It answers the number of documents. Refusals 1, 3, 6, 19, 8,
+// also for the phrase of no words, 9, and 12 for a slice with less than one element a document leave
+// the slice as it was.
+#[no_mangle]
+pub extern "C" fn concordance_summary(
+    shape: Shape,
+    lengths: &[u32],
+    bytes: &[u8],
+    superblocks: &[u32],
+    blocks: &[u16],
+    documents: &[u32],
+    words: &[u32],
+    start: usize,
+    count: usize,
+    counts: &mut [u32],
+) -> Answer
+    ensures { λ r. ⌜ (r ≡ summaryAnswer 128 shape (arrays (now (lengths .entry)) (now (bytes .entry)) (now (superblocks .entry)) (now (blocks .entry))) (now (documents .entry)) (now (words .entry)) start count (length (now (counts .entry)))) × (now (counts .exit) ≡ summaryExit 128 shape (arrays (now (lengths .entry)) (now (bytes .entry)) (now (superblocks .entry)) (now (blocks .entry))) (now (documents .entry)) (now (words .entry)) start count (now (counts .entry))) ⌝ }
+{
+    summaries::summary(
+        shape,
+        lengths,
+        bytes,
+        superblocks,
+        blocks,
+        documents,
+        words,
+        start,
+        count,
+        counts,
     )
 }
 

@@ -9,6 +9,9 @@ use lib.ListN.{length, getD}
 use Rattle.base.specs.Lists.{filterBy, rangeFrom, countOf, nth}
 use Rattle.base.proofs.Counts.{Found, nth-found}
 use Rattle.phrases.specs.Phrases.{stands, places}
+use Rattle.documents.specs.Documents.{placesIn}
+use Rattle.documents.proofs.Numbers.{document-itself}
+use Rattle.documents.proofs.Inside.{places-in-all}
 use Rattle.phrases.specs.Anchors.{candidate}
 use Rattle.phrases.proofs.Standing.{stands-yes}
 use Rattle.phrases.proofs.Anchors.{places-along}
@@ -36,8 +39,8 @@ one-word t w =
     ∙ all-hits (stands t (w ∷ [])) (candidate t w 0) 0 (countOf w t - 0) (λ j l u. word-stands t w j (omega arith))
     ∙ sub-zero (countOf w t))
 
--- of a list with one word
-pub only-word : (t ws : List ℕ) → length ws ≡ 1 → countOf (getD ws 0 0) t ≡ length (places t ws)
-only-word t [] e = absurd (omega arith)
-only-word t (w ∷ []) e = one-word t w
-only-word t (w ∷ v ∷ ws) e = absurd (omega arith)
+-- of a list with one word, which always lies in one document
+pub only-word : (documents t ws : List ℕ) → length ws ≡ 1 → countOf (getD ws 0 0) t ≡ length (placesIn documents t ws)
+only-word documents t [] e = absurd (omega arith)
+only-word documents t (w ∷ []) e = one-word t w ∙ ap length (sym (places-in-all documents t (w ∷ []) (document-itself documents)))
+only-word documents t (w ∷ v ∷ ws) e = absurd (omega arith)

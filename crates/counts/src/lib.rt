@@ -1,18 +1,18 @@
-// How often a phrase stands in the text, and how often a word has another at an offset: short loops
-// over the search for the next hit.
+// How often a phrase stands inside one document, and how often a word has another at an offset in
+// one: short loops over the search for the next hit.
 //
 // No function of this crate is an entry: each requires that the four slices have passed the check,
 // and `starts` is the table that `starts::node_starts` fills.
 ghost use mathlib.Core.Path.{_≡_};
+ghost use mathlib.Core.Bool.{true};
 ghost use Prim.Native.Nat.{suc, _≤_, _<_};
 ghost use lib.IntN.{natAbs};
 ghost use lib.ListN.{length};
 ghost use Rattle.base.specs.Texts.{maxOffset};
 ghost use Rattle.index.specs.Arrays.{Arrays, arrays, textIn};
 ghost use Rattle.words.specs.Ready.{Ready};
-ghost use Rattle.phrases.specs.Phrases.{places};
-ghost use Rattle.phrases.specs.Neighbours.{neighbours as neighboursOf};
-ghost use Rattle.matching.specs.Sought.{hitAt};
+ghost use Rattle.documents.specs.Documents.{isAscending, placesIn, neighboursIn};
+ghost use Rattle.matching.specs.Sought.{hitIn};
 ghost use Rattle.matching.specs.Searching.{Searchable, Searching, Paired};
 ghost use Rattle.hits.specs.Hits.{hitsBetween};
 use hits::Hit;
@@ -20,7 +20,7 @@ use index::Shape;
 use matching::Sought;
 use tree::Place;
 
-// How often what is sought stands at the places from 0 to the end of the text.
+// How often what is sought stands inside one document, at the places from 0 to the end of the text.
 fn count_hits(
     s: usize,
     shape: Shape,
@@ -29,14 +29,15 @@ fn count_hits(
     superblocks: &[u32],
     blocks: &[u16],
     starts: &[u32],
+    documents: &[u32],
     firsts: &[u8],
     words: &[u32],
     sought: Sought,
 ) -> usize
     ghost { Arrays }
     requires { λ a. ⌜ arrays (now lengths) (now bytes) (now superblocks) (now blocks) ≡ a ⌝ }
-    requires { λ a. ⌜ Searching s shape a (now starts) (now firsts) (now words) × Paired (now words) sought ⌝ }
-    ensures { λ a r. ⌜ r ≡ length (hitsBetween (hitAt (textIn s a) (now (words .entry)) sought) 0 (suc (length (textIn s a)))) ⌝ }
+    requires { λ a. ⌜ Searching s shape a (now starts) (now firsts) (now words) × Paired (now words) sought × (isAscending (now documents) ≡ true) ⌝ }
+    ensures { λ a r. ⌜ r ≡ length (hitsBetween (hitIn (now (documents .entry)) (textIn s a) (now (words .entry)) sought) 0 (suc (length (textIn s a)))) ⌝ }
 {
     let end = Place(words::text_length(lengths) + 1);
     let mut count: usize = 0;
@@ -61,6 +62,7 @@ fn count_hits(
             superblocks,
             blocks,
             starts,
+            documents,
             firsts,
             words,
             sought,
@@ -77,7 +79,7 @@ fn count_hits(
     }
 }
 
-// How often a phrase stands in the text; a phrase of one word as often as the word.
+// How often a phrase stands inside one document; a phrase of one word as often as the word.
 pub fn count_phrase(
     s: usize,
     shape: Shape,
@@ -86,12 +88,13 @@ pub fn count_phrase(
     superblocks: &[u32],
     blocks: &[u16],
     starts: &[u32],
+    documents: &[u32],
     words: &[u32],
 ) -> usize
     ghost { Arrays }
     requires { λ a. ⌜ arrays (now lengths) (now bytes) (now superblocks) (now blocks) ≡ a ⌝ }
-    requires { λ a. ⌜ Searchable s shape a (now starts) (now words) ⌝ }
-    ensures { λ a r. ⌜ r ≡ length (places (textIn s a) (now (words .entry))) ⌝ }
+    requires { λ a. ⌜ Searchable s shape a (now starts) (now words) × (isAscending (now documents) ≡ true) ⌝ }
+    ensures { λ a r. ⌜ r ≡ length (placesIn (now (documents .entry)) (textIn s a) (now (words .entry))) ⌝ }
 {
     let m = words.len();
     if m == 1 {
@@ -108,13 +111,14 @@ pub fn count_phrase(
         superblocks,
         blocks,
         starts,
+        documents,
         &table[..m],
         words,
         Sought::Phrase,
     )
 }
 
-// How often a word has another at an offset, along the occurrences of the first.
+// How often a word has another at an offset in one document, along the occurrences of the first.
 fn count_pair(
     s: usize,
     shape: Shape,
@@ -123,14 +127,15 @@ fn count_pair(
     superblocks: &[u32],
     blocks: &[u16],
     starts: &[u32],
+    documents: &[u32],
     w: u32,
     v: u32,
     offset: i32,
 ) -> usize
     ghost { Arrays }
     requires { λ a. ⌜ arrays (now lengths) (now bytes) (now superblocks) (now blocks) ≡ a ⌝ }
-    requires { λ a. ⌜ Ready s shape a (now starts) × (w < shape .vocabulary) × (v < shape .vocabulary) ⌝ }
-    ensures { λ a r. ⌜ r ≡ neighboursOf (textIn s a) w v offset ⌝ }
+    requires { λ a. ⌜ Ready s shape a (now starts) × (w < shape .vocabulary) × (v < shape .vocabulary) × (isAscending (now documents) ≡ true) ⌝ }
+    ensures { λ a r. ⌜ r ≡ neighboursIn (now (documents .entry)) (textIn s a) w v offset ⌝ }
 {
     let pair = [w, v];
     let mut table = [0u8; 2];
@@ -143,14 +148,15 @@ fn count_pair(
         superblocks,
         blocks,
         starts,
+        documents,
         &table,
         &pair,
         Sought::Pair(offset),
     )
 }
 
-// How often a word has another at an offset: along the occurrences of the rarer of the two, from
-// which the other stands at the offset or at the negated one.
+// How often a word has another at an offset in one document: along the occurrences of the rarer of
+// the two, from which the other stands at the offset or at the negated one.
 pub fn neighbours(
     s: usize,
     shape: Shape,
@@ -159,14 +165,15 @@ pub fn neighbours(
     superblocks: &[u32],
     blocks: &[u16],
     starts: &[u32],
+    documents: &[u32],
     w: u32,
     v: u32,
     offset: i32,
 ) -> usize
     ghost { Arrays }
     requires { λ a. ⌜ arrays (now lengths) (now bytes) (now superblocks) (now blocks) ≡ a ⌝ }
-    requires { λ a. ⌜ Ready s shape a (now starts) × (w < shape .vocabulary) × (v < shape .vocabulary) × (natAbs offset ≤ maxOffset) ⌝ }
-    ensures { λ a r. ⌜ r ≡ neighboursOf (textIn s a) w v offset ⌝ }
+    requires { λ a. ⌜ Ready s shape a (now starts) × (w < shape .vocabulary) × (v < shape .vocabulary) × (natAbs offset ≤ maxOffset) × (isAscending (now documents) ≡ true) ⌝ }
+    ensures { λ a r. ⌜ r ≡ neighboursIn (now (documents .entry)) (textIn s a) w v offset ⌝ }
 {
     let one = w as usize;
     let other = v as usize;
@@ -181,6 +188,7 @@ pub fn neighbours(
             superblocks,
             blocks,
             starts,
+            documents,
             w,
             v,
             offset,
@@ -195,6 +203,7 @@ pub fn neighbours(
         superblocks,
         blocks,
         starts,
+        documents,
         v,
         w,
         back,

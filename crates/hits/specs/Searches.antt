@@ -13,7 +13,7 @@ use Rattle.words.specs.declared.Near.{Near}
 use Rattle.phrases.specs.Anchors.{Anchored, firstCandidate}
 use Rattle.matching.specs.declared.Sought.{Sought}
 use Rattle.matching.specs.declared.Sought.the-variants.{Phrase, Pair}
-use Rattle.matching.specs.Sought.{hitAt}
+use Rattle.matching.specs.Sought.{hitAt, hitIn}
 use Rattle.matching.specs.Searching.{Paired, MayStand}
 use Rattle.hits.specs.declared.Hit.{Hit}
 use Rattle.hits.specs.declared.Hit.the-variants.{At, Nowhere}
@@ -55,8 +55,8 @@ abbrev pub placeAfter : Hit → ℕ → ℕ
 placeAfter (At q) end = q .0 + 1
 placeAfter Nowhere end = end
 
--- what a call hands back: the least hit from the place of the search on, and the search at the place after it
-pub record Reaches (s : ℕ) (shape : Shape) (a : Arrays) (starts words : List ℕ) (sought : Sought) (x : Search) (end : ℕ) (r : Reached) : Type 0 where
-  pub hit-is : r .hit ≡ leastHit (hitAt (textIn s a) words sought) (x .place .0) end
+-- what a call hands back: the least hit inside one document from the place of the search on, and the search at the place after it
+pub record Reaches (s : ℕ) (shape : Shape) (a : Arrays) (starts documents words : List ℕ) (sought : Sought) (x : Search) (end : ℕ) (r : Reached) : Type 0 where
+  pub hit-is : r .hit ≡ leastHit (hitIn documents (textIn s a) words sought) (x .place .0) end
   pub search-is : SearchFor s shape a starts words sought (r .search)
   pub place-is : r .search .place .0 ≡ placeAfter (r .hit) end

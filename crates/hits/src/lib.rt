@@ -1,4 +1,5 @@
-// The one search: the least place from a place on, below an end, at which what is sought stands.
+// The one search: the least place from a place on, below an end, at which what is sought stands
+// inside one document.
 //
 // How it finds the place is hidden below the contract of `next_hit`: along the occurrences of one
 // word of what is sought, the anchor, each of which gives one candidate to test. A search costs the
@@ -7,11 +8,13 @@
 // No function of this crate is an entry: each requires that the four slices have passed the check,
 // and `starts` is the table that `starts::node_starts` fills.
 ghost use mathlib.Core.Path.{_≡_};
+ghost use mathlib.Core.Bool.{true};
 ghost use Prim.Native.Nat.{_+_, _≤_, _<_};
 ghost use Rattle.base.specs.Texts.{maxWords};
 ghost use Rattle.index.specs.Arrays.{Arrays, arrays, textIn};
 ghost use Rattle.words.specs.Words.{occurrencesBelow};
 ghost use Rattle.words.specs.Ready.{Ready};
+ghost use Rattle.documents.specs.Documents.{isAscending};
 ghost use Rattle.matching.specs.Searching.{Searchable, Searching, Paired};
 ghost use Rattle.hits.specs.Searches.{Rarest, AnchorOf, SearchFor, movedTo, Reaches};
 use index::Shape;
@@ -205,8 +208,8 @@ impl Search {
     }
 }
 
-// The least place at or after that of a search, below an end, at which what is sought stands, or
-// none; and the search at the place after it, or at the end.
+// The least place at or after that of a search, below an end, at which what is sought stands inside
+// one document, or none; and the search at the place after it, or at the end.
 pub fn next_hit(
     s: usize,
     shape: Shape,
@@ -215,6 +218,7 @@ pub fn next_hit(
     superblocks: &[u32],
     blocks: &[u16],
     starts: &[u32],
+    documents: &[u32],
     firsts: &[u8],
     words: &[u32],
     sought: Sought,
@@ -223,8 +227,8 @@ pub fn next_hit(
 ) -> Reached
     ghost { Arrays }
     requires { λ a. ⌜ arrays (now lengths) (now bytes) (now superblocks) (now blocks) ≡ a ⌝ }
-    requires { λ a. ⌜ Searching s shape a (now starts) (now firsts) (now words) × SearchFor s shape a (now starts) (now words) sought search × (search .place .0 ≤ end .0) ⌝ }
-    ensures { λ a r. ⌜ Reaches s shape a (now (starts .entry)) (now (words .entry)) sought search (end .0) r ⌝ }
+    requires { λ a. ⌜ Searching s shape a (now starts) (now firsts) (now words) × SearchFor s shape a (now starts) (now words) sought search × (search .place .0 ≤ end .0) × (isAscending (now documents) ≡ true) ⌝ }
+    ensures { λ a r. ⌜ Reaches s shape a (now (starts .entry)) (now (documents .entry)) (now (words .entry)) sought search (end .0) r ⌝ }
 {
     let anchor = search.anchor;
     let rank = search.rank;
@@ -262,6 +266,7 @@ pub fn next_hit(
             superblocks,
             blocks,
             starts,
+            documents,
             firsts,
             words,
             sought,

@@ -1,10 +1,10 @@
 -- When a page call is accepted, and that an accepted one is a page over the places of its text. Assumes nothing.
 use Prim.Native.Nat.{ℕ, _+_, _≤_}
-use mathlib.Core.Path.{_≡_, refl, sym, ap, _∙_}
+use mathlib.Core.Path.{_≡_, sym, ap, _∙_}
 use mathlib.Core.Bool.{true, not}
 use mathlib.Core.List.{List}
 use native.Mathlib.Omega.{arith}
-use borrow.Author.Tests.{le-ltb, ne-eqb, eqb-false}
+use borrow.Author.Tests.{le-ltb}
 use lib.Dec.{ltb}
 use lib.ListN.{length, drop, length-take, length-drop}
 use Rattle.base.specs.declared.Answer.{Answer}
@@ -12,31 +12,29 @@ use Rattle.base.specs.Lists.{Below}
 use Rattle.base.specs.Answers.{accepted, isAccepted, NoneHolds, filled}
 use Rattle.base.specs.Texts.{maxPhrase, ranksBelow}
 use Rattle.base.proofs.Tests.{or-false}
-use Rattle.base.proofs.Answers.{none-holds, answers, none-append}
+use Rattle.base.proofs.Answers.{answers}
 use Rattle.base.proofs.Texts.{test-of-below}
-use Rattle.dense.specs.Code.{vocabularyCase}
-use Rattle.directory.specs.Counters.{blocksCase}
 use Rattle.index.specs.declared.Shape.{Shape}
 use Rattle.index.specs.Arrays.{Arrays, textIn}
-use Rattle.index.specs.Entries.{indexCases, checkAnswer}
-use Rattle.phrases.specs.Phrases.{stands}
+use Rattle.index.specs.Entries.{checkAnswer}
+use Rattle.documents.specs.Documents.{areStarts, standsIn}
 use Rattle.pages.specs.Runs.{IsPage}
-use Rattle.questions.specs.Answering.{phraseIn, phraseCases, rankAskedCase}
-use Rattle.questions.proofs.Read.{index-tests}
+use Rattle.questions.specs.Answering.{phraseIn, phraseCases, phraseRefusal, rankAskedCase}
+use Rattle.questions.proofs.Checks.{check-in-passed}
 use Rattle.listing.specs.declared.Listing.{Listing}
-use Rattle.listing.specs.Paging.{Call, callText, callPhrase, callPage, requestCases, pageCases, pageAnswer, pageOf}
+use Rattle.listing.specs.Paging.{Call, callText, callPhrase, callPage, pageAnswer, pageOf}
 use Rattle.listing.specs.Completeness.{outcomeOf, IsPart, Brings}
+use Rattle.listing.proofs.Paged.{request-none, accepted-call, taken}
 
 -- an accepted call is a page over the places of its own text
 pub own-page : (call : Call) (state : Listing) → isAccepted (pageAnswer call state) ≡ true
-    → IsPage (λ (st : Listing). st .next) (λ (st : Listing). st .finished) (stands (callText call) (callPhrase call)) (length (callText call)) (call .lines) state (outcomeOf call state)
-unfolding pageOf pageAnswer pageCases requestCases callPage indexCases phraseCases vocabularyCase blocksCase rankAskedCase filled
+    → IsPage (λ (st : Listing). st .next) (λ (st : Listing). st .finished) (standsIn (call .documents) (callText call) (callPhrase call)) (length (callText call)) (call .lines) state (outcomeOf call state)
+unfolding pageOf callPage filled
 own-page call state h =
-    let n = none-holds (pageCases call state) (accepted (length (callPage call state .found))) (refl, (refl, (refl, (refl, (refl, (refl, (refl, tt))))))) h in
-    let e : pageAnswer call state ≡ accepted (length (callPage call state .found)) = answers (pageCases call state) (accepted (length (callPage call state .found))) n in
+    let p = accepted-call call state h in
     record {
-      someLine = omega (arith, eqb-false (length (call .lines)) 0 (n .1 .1 .1 .1 .1 .1 .0));
-      valueIs = ap (λ (x : Answer). x .value) e;
+      someLine = p .someLine;
+      valueIs = ap (λ (x : Answer). x .value) (p .answerIs);
       moreIs = rw h;
       nextIs = rw h;
       finishedIs = rw h;
@@ -53,14 +51,18 @@ phrase-tests vocab words start len phrase part most below =
       (ap not (ap (ranksBelow vocab) (part .isPhrase) ∙ test-of-below vocab phrase below), tt),
     )
 
--- a call that brings the phrase and arrays that pass is accepted over a state whose next place is not above n, with a page of one line or more
-module _ (s : ℕ) (shape : Shape) (a : Arrays) (phrase : List ℕ) (passed : checkAnswer s shape a ≡ accepted 0) (most : length phrase ≤ maxPhrase) (below : Below (shape .vocabulary) phrase) where
-  pub call-accepted : (call : Call) (state : Listing) → Brings s shape a phrase call → 1 ≤ length (call .lines) → state .next ≤ length (textIn s a) → isAccepted (pageAnswer call state) ≡ true
-  unfolding pageAnswer pageCases requestCases
+-- a call that brings the phrase, arrays that pass and starts that keep the rules is accepted over a state whose next place is not above n,
+-- with a page of one line or more
+module _ (s : ℕ) (shape : Shape) (a : Arrays) (documents phrase : List ℕ) (passed : checkAnswer s shape a ≡ accepted 0) (keep : areStarts (length (textIn s a)) documents ≡ true)
+    (most : length phrase ≤ maxPhrase) (below : Below (shape .vocabulary) phrase) where
+  pub call-accepted : (call : Call) (state : Listing) → Brings s shape a documents phrase call → 1 ≤ length (call .lines) → state .next ≤ length (textIn s a) → isAccepted (pageAnswer call state) ≡ true
+  unfolding phraseRefusal
   call-accepted call state b lines inside =
-      ap isAccepted (answers (pageCases call state) (accepted (length (callPage call state .found)))
-      (none-append (indexCases (call .closing) (call .shape) (call .arrays)) _
-      (rw (b .sameClosing, b .sameShape, b .sameArrays) (index-tests s shape a passed))
-      (none-append (phraseCases (call .shape .vocabulary) (call .words) (call .start) (call .len)) _
-      (rw (b .sameShape) (phrase-tests (shape .vocabulary) (call .words) (call .start) (call .len) phrase (b .samePhrase) most below))
-      (le-ltb (length (callText call)) (state .next) (rw (b .sameClosing, b .sameArrays) inside), (ne-eqb (length (call .lines)) 0 (λ q. omega arith), tt)))))
+      let none : phraseRefusal (call .shape .vocabulary) (call .words) (call .start) (call .len) ≡ 0 =
+      ap (λ (x : Answer). x .refusal) (answers (phraseCases (call .shape .vocabulary) (call .words) (call .start) (call .len)) (accepted 0)
+      (rw (b .sameShape) (phrase-tests (shape .vocabulary) (call .words) (call .start) (call .len) phrase (b .samePhrase) most below))) in
+      ap isAccepted (taken call state
+      (rw (b .sameClosing, b .sameShape, b .sameArrays, b .sameDocuments) (ap (λ (x : Answer). x .refusal) (check-in-passed s shape a documents passed keep)))
+      (ap (λ (x : Answer). x .refusal)
+      (request-none (call .shape .vocabulary) (call .words) (call .start) (call .len) (length (callText call)) (state .next) (length (call .lines)) none
+      (rw (b .sameClosing, b .sameArrays) inside) (λ q. omega arith))))

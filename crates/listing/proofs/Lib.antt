@@ -1,4 +1,5 @@
+pub mod Paged
 pub mod Calls
 pub mod Whole
-pub mod Paged
 pub mod NoWords
+pub mod WithoutStarts

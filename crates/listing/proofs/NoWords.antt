@@ -1,15 +1,16 @@
 -- The pages of a listing of the phrase of no words. Assumes nothing.
 use Prim.Native.Nat.{ℕ, zero, suc, _+_, _-_, _≤_, _<_}
 use mathlib.Core.Path.{_≡_, sym, ap, _∙_}
-use mathlib.Core.Bool.{true, false}
+use mathlib.Core.Bool.{Bool, true, false}
 use native.Mathlib.Omega.{arith}
 use lib.ListN.{length, drop, length-take}
 use Rattle.base.specs.Lists.{rangeFrom}
 use Rattle.base.specs.Answers.{isAccepted, front}
 use Rattle.base.proofs.Fronts.{front-whole}
-use Rattle.base.proofs.Ranges.{length-range, range-append}
-use Rattle.phrases.specs.Phrases.{stands}
-use Rattle.phrases.proofs.NoWords.{none-from}
+use Rattle.base.proofs.Ranges.{length-range, range-append, filter-range-all}
+use Rattle.phrases.proofs.NoWords.{none-stands}
+use Rattle.documents.specs.Documents.{standsIn}
+use Rattle.documents.proofs.Inside.{none-in}
 use Rattle.pages.specs.Hits.{hitsFrom, lastOr}
 use Rattle.pages.specs.Pages.{HitPage}
 use Rattle.pages.proofs.Pages.{fullPage, endPage, page-full, page-last}
@@ -37,9 +38,17 @@ module _ (call : Call) (state : Listing) (taken : isAccepted (pageAnswer call st
   unfolding phraseIn
   no-words = length-take (call .len) (drop (call .start) (call .words)) ∙ omega arith
 
+  -- whether the phrase stands at a place inside one document
+  abbrev hit : ℕ → Bool
+  hit = standsIn (call .documents) (callText call) (callPhrase call)
+
+  -- it does at every place up to n
+  everywhere : (q : ℕ) → q ≤ n → hit q ≡ true
+  everywhere q h = none-in (call .documents) (callText call) (callPhrase call) no-words q ∙ none-stands (callText call) (callPhrase call) no-words q h
+
   -- so its hits from the next place on are all places from there
-  hits : hitsFrom (stands (callText call) (callPhrase call)) n (state .next) ≡ rangeFrom (state .next) (suc n - state .next)
-  hits = none-from (callText call) (callPhrase call) no-words (state .next)
+  hits : hitsFrom hit n (state .next) ≡ rangeFrom (state .next) (suc n - state .next)
+  hits = filter-range-all hit (state .next) (suc n - state .next) (λ q l u. everywhere q (omega arith))
 
   -- of the page, what the call returns and writes
   of-page : (p : HitPage) → callPage call state ≡ p → pageOf call state ≡ placesPage (length (p .found)) (p .more) (p .next) (p .finished) (front (p .found) (call .lines))
@@ -57,7 +66,7 @@ module _ (call : Call) (state : Listing) (taken : isAccepted (pageAnswer call st
       let l : suc (lastOr 0 (rangeFrom (state .next) room)) ≡ state .next + room =
       ap (λ (m : ℕ). suc (lastOr 0 (rangeFrom (state .next) m))) (sym k) ∙ ap suc (last-range 0 (state .next) (room - 1)) ∙ omega arith in
       of-page (fullPage (rangeFrom (state .next) room))
-      (rw goes (page-full (stands (callText call) (callPhrase call)) n room (state .next) (state .next + room) (rangeFrom (state .next) room) (rangeFrom (suc (state .next + room)) later)
+      (rw goes (page-full hit n room (state .next) (state .next + room) (rangeFrom (state .next) room) (rangeFrom (suc (state .next + room)) later)
       (hits ∙ ap (rangeFrom (state .next)) e ∙ range-append (state .next) room (suc later)) (length-range (state .next) room)))
       ∙ rw (length-range (state .next) room, l, front-whole (rangeFrom (state .next) room) (call .lines) (length-range (state .next) room))
 
@@ -65,7 +74,7 @@ module _ (call : Call) (state : Listing) (taken : isAccepted (pageAnswer call st
   unfolding callPage
   last h =
       of-page (endPage n (rangeFrom (state .next) (suc n - state .next)))
-      (rw goes (page-last (stands (callText call) (callPhrase call)) n room (state .next) (rangeFrom (state .next) (suc n - state .next)) hits
+      (rw goes (page-last hit n room (state .next) (rangeFrom (state .next) (suc n - state .next)) hits
       (omega (arith, length-range (state .next) (suc n - state .next)))))
       ∙ rw (length-range (state .next) (suc n - state .next))
 

@@ -1,9 +1,10 @@
 -- A page call, case by case: its refusals in the order tried, and what it comes to where it is accepted. Assumes nothing.
 use Prim.Native.Nat.{ℕ, _≤_, _<_}
 use mathlib.Core.Path.{_≡_, refl, sym, ap, _∙_}
-use mathlib.Core.Bool.{true, false}
+use mathlib.Core.Bool.{Bool, true, false}
 use mathlib.Core.List.{List, [], _∷_}
-use borrow.Author.Tests.{eq-eqb, ne-eqb, lt-ltb, le-ltb, ltb-false}
+use native.Mathlib.Omega.{arith}
+use borrow.Author.Tests.{eq-eqb, ne-eqb, eqb-false, lt-ltb, le-ltb, ltb-false, not-false}
 use lib.Dec.{eqb, ltb}
 use lib.ListN.{length}
 use Rattle.base.specs.declared.Answer.{Answer}
@@ -13,35 +14,36 @@ use Rattle.base.proofs.Answers.{first-here, first-later, first-append, first-de
 use Rattle.dense.specs.Code.{vocabularyCase}
 use Rattle.directory.specs.Counters.{blocksCase}
 use Rattle.index.specs.Entries.{indexCases, checkAnswer}
-use Rattle.phrases.specs.Phrases.{places, stands}
+use Rattle.documents.specs.Documents.{areStarts, documentsCase, standsIn, placesIn}
 use Rattle.pages.specs.Pages.{HitPage, pageOver}
 use Rattle.pages.proofs.Searching.{made-finished}
 use Rattle.paging.specs.declared.Written.{Written}
 use Rattle.paging.specs.Written.{writtenOf}
-use Rattle.questions.specs.Answering.{phraseIn, phraseCases, phraseRefusal, phraseAnswer, rankAskedCase}
+use Rattle.questions.specs.Answering.{readingCases, checkAnswerIn, phraseIn, phraseCases, phraseRefusal, phraseAnswer, rankAskedCase}
 use Rattle.questions.proofs.Answered.{phrase-refused}
+use Rattle.questions.proofs.Checks.{reading-passed, reading-refused, check-in-clear}
 use Rattle.listing.specs.declared.Listing.{Listing}
 use Rattle.listing.specs.declared.Page.{Page}
 use Rattle.listing.specs.Paging.{Call, callText, callPhrase, callPage, unwritten, requestCases, requestAnswer, pageCases, pageAnswer, PageResult, pageOf}
 
--- the tests after those of the index, case by case
+-- the tests after those of the index and of the starts, case by case
 module _ (vocab : ℕ) (words : List ℕ) (start len n next room : ℕ) where
-  -- the tests after those of the phrase
-  abbrev rest : List Case
-  rest = (ltb n next ⇒ refused refusalPlace) ∷ (eqb room 0 ⇒ refused refusalPage) ∷ []
-
   -- the tests of the phrase decide
   pub request-phrase : (phraseRefusal vocab words start len ≡ 0 → ⊥) → requestAnswer vocab words start len n next room ≡ refused (phraseRefusal vocab words start len)
   unfolding requestAnswer requestCases phraseAnswer
   request-phrase h =
       let ph = phraseCases vocab words start len in
-      let no = phrase-refused vocab words start len [] h in
-      first-append ph rest (accepted 0)
-      ∙ first-decided ph (accepted (length (places [] (phraseIn words start len)))) (firstOf rest (accepted 0)) refl (ap isAccepted no ∙ ne-eqb (phraseRefusal vocab words start len) 0 h)
+      let no = phrase-refused vocab words start len [] [] h in
+      first-append ph _ (accepted 0)
+      ∙ first-decided ph (accepted (length (placesIn [] [] (phraseIn words start len)))) _ refl (ap isAccepted no ∙ ne-eqb (phraseRefusal vocab words start len) 0 h)
       ∙ no
 
   module _ (f : phraseRefusal vocab words start len ≡ 0) where
-    -- or leave it to the last two
+    -- the tests after those of the phrase
+    abbrev rest : List Case
+    rest = (ltb n next ⇒ refused refusalPlace) ∷ (eqb room 0 ⇒ refused refusalPage) ∷ []
+
+    -- or leave it to those two
     after-phrase : requestAnswer vocab words start len n next room ≡ firstOf rest (accepted 0)
     unfolding requestAnswer requestCases phraseRefusal phraseCases rankAskedCase
     after-phrase =
@@ -80,60 +82,71 @@ module _ (call : Call) (state : Listing) where
   unfolding pageOf filled
   page-accepted e = sym (rw e)
 
-  -- the tests after those of the index, and their answer
+  -- the tests of the index and of the starts, and their answer
+  abbrev reading : List Case
+  reading = readingCases (call .closing) (call .shape) (call .arrays) (call .documents)
+
+  abbrev checked : Answer
+  checked = checkAnswerIn (call .closing) (call .shape) (call .arrays) (call .documents)
+
+  -- the tests after those, and their answer
   abbrev request : List Case
   request = requestCases (call .shape .vocabulary) (call .words) (call .start) (call .len) (length (callText call)) (state .next) (length (call .lines))
 
   abbrev asked : Answer
   asked = requestAnswer (call .shape .vocabulary) (call .words) (call .start) (call .len) (length (callText call)) (state .next) (length (call .lines))
 
-  -- the tests of the index decide
-  pub by-index : (checkAnswer (call .closing) (call .shape) (call .arrays) .refusal ≡ 0 → ⊥) → pageAnswer call state ≡ checkAnswer (call .closing) (call .shape) (call .arrays)
-  unfolding pageAnswer pageCases checkAnswer
-  by-index h =
-      let ix = indexCases (call .closing) (call .shape) (call .arrays) in
+  -- the tests of the index and of the starts decide
+  pub by-reading : (checked .refusal ≡ 0 → ⊥) → pageAnswer call state ≡ checked
+  unfolding pageAnswer pageCases
+  by-reading h =
       let done = accepted (length (callPage call state .found)) in
-      first-append ix request done
-      ∙ first-decided ix (accepted 0) (firstOf request done) refl (ne-eqb (checkAnswer (call .closing) (call .shape) (call .arrays) .refusal) 0 h)
+      first-append reading request done
+      ∙ reading-refused (call .closing) (call .shape) (call .arrays) (call .documents) h (firstOf request done)
 
-  module _ (e : checkAnswer (call .closing) (call .shape) (call .arrays) .refusal ≡ 0) where
+  module _ (e : checked .refusal ≡ 0) where
     -- or leave it to those after them
-    after-index : pageAnswer call state ≡ firstOf request (accepted (length (callPage call state .found)))
-    unfolding pageAnswer pageCases checkAnswer indexCases vocabularyCase blocksCase
-    after-index =
-        let ix = indexCases (call .closing) (call .shape) (call .arrays) in
+    after-reading : pageAnswer call state ≡ firstOf request (accepted (length (callPage call state .found)))
+    unfolding pageAnswer pageCases
+    after-reading =
         let done = accepted (length (callPage call state .found)) in
-        first-append ix request done
-        ∙ answers ix (firstOf request done) (none-holds ix (accepted 0) (refl, (refl, (refl, tt))) (eq-eqb (checkAnswer (call .closing) (call .shape) (call .arrays) .refusal) 0 e))
+        let passed = check-in-clear (call .closing) (call .shape) (call .arrays) (call .documents) e in
+        first-append reading request done
+        ∙ reading-passed (call .closing) (call .shape) (call .arrays) (call .documents) (passed .0) (passed .1) (firstOf request done)
 
     -- which decide
     pub by-request : (asked .refusal ≡ 0 → ⊥) → pageAnswer call state ≡ asked
     unfolding requestAnswer
-    by-request h = after-index ∙ first-decided request (accepted 0) (accepted (length (callPage call state .found))) refl (ne-eqb (asked .refusal) 0 h)
+    by-request h = after-reading ∙ first-decided request (accepted 0) (accepted (length (callPage call state .found))) refl (ne-eqb (asked .refusal) 0 h)
 
     -- or leave the call accepted
     pub taken : asked .refusal ≡ 0 → pageAnswer call state ≡ accepted (length (callPage call state .found))
     unfolding requestAnswer requestCases phraseCases rankAskedCase
     taken h =
-        after-index
+        after-reading
         ∙ answers request (accepted (length (callPage call state .found))) (none-holds request (accepted 0) (refl, (refl, (refl, (refl, tt)))) (eq-eqb (asked .refusal) 0 h))
 
-  -- what holds of an accepted call: its index passes, its phrase is not refused, its next place is not above n, it answers with its hits
+  -- what holds of an accepted call: its index passes, its starts keep the rules, its phrase is not refused, its next place is not above n,
+  -- its page has a line, it answers with its hits
   pub record Accepted : Type 0 where
     pub index : checkAnswer (call .closing) (call .shape) (call .arrays) .refusal ≡ 0
+    pub starts : areStarts (length (callText call)) (call .documents) ≡ true
     pub phrase : phraseRefusal (call .shape .vocabulary) (call .words) (call .start) (call .len) ≡ 0
     pub inside : state .next ≤ length (callText call)
+    pub someLine : 1 ≤ length (call .lines)
     pub answerIs : pageAnswer call state ≡ accepted (length (callPage call state .found))
 
   pub accepted-call : isAccepted (pageAnswer call state) ≡ true → Accepted
-  unfolding pageAnswer pageCases requestCases checkAnswer indexCases phraseRefusal phraseCases vocabularyCase blocksCase rankAskedCase
+  unfolding pageAnswer pageCases requestCases readingCases documentsCase checkAnswer indexCases phraseRefusal phraseCases vocabularyCase blocksCase rankAskedCase
   accepted-call h =
       let done = accepted (length (callPage call state .found)) in
-      let n = none-holds (pageCases call state) done (refl, (refl, (refl, (refl, (refl, (refl, (refl, tt))))))) h in
+      let n = none-holds (pageCases call state) done (refl, (refl, (refl, (refl, (refl, (refl, (refl, (refl, tt)))))))) h in
       record {
         index = ap (λ (x : Answer). x .refusal) (answers (indexCases (call .closing) (call .shape) (call .arrays)) (accepted 0) (n .0, (n .1 .0, (n .1 .1 .0, tt))));
-        phrase = ap (λ (x : Answer). x .refusal) (answers (phraseCases (call .shape .vocabulary) (call .words) (call .start) (call .len)) (accepted 0) (n .1 .1 .1 .0, (n .1 .1 .1 .1 .0, tt)));
-        inside = ltb-false (length (callText call)) (state .next) (n .1 .1 .1 .1 .1 .0);
+        starts = not-false (areStarts (length (callText call)) (call .documents)) (n .1 .1 .1 .0);
+        phrase = ap (λ (x : Answer). x .refusal) (answers (phraseCases (call .shape .vocabulary) (call .words) (call .start) (call .len)) (accepted 0) (n .1 .1 .1 .1 .0, (n .1 .1 .1 .1 .1 .0, tt)));
+        inside = ltb-false (length (callText call)) (state .next) (n .1 .1 .1 .1 .1 .1 .0);
+        someLine = omega (arith, eqb-false (length (call .lines)) 0 (n .1 .1 .1 .1 .1 .1 .1 .0));
         answerIs = answers (pageCases call state) done n;
       }
 
@@ -146,13 +159,18 @@ module _ (call : Call) (state : Listing) where
       let p = page-accepted e in
       (rw is (ap (λ (x : PageResult). x .page) p), f ∙ ap (λ (x : PageResult). x .lines) p)
 
+  -- the page of a state that is finished or is not, over the places where the phrase stands inside one document
+  pub page-of-state : (b : Bool) → state .finished ≡ b
+      → callPage call state ≡ pageOver (standsIn (call .documents) (callText call) (callPhrase call)) (length (callText call)) (length (call .lines)) (state .next) b
+  unfolding callPage
+  page-of-state b f = rw f
+
   -- over a finished state nothing is written, and the state comes back the same
   pub page-finished : pageAnswer call state ≡ accepted (length (callPage call state .found)) → state .finished ≡ true
       → (unwritten (accepted 0) state ≡ pageOf call state .page) × (call .lines ≡ pageOf call state .lines)
-  unfolding callPage
   page-finished e f =
-      let m = made-finished (stands (callText call) (callPhrase call)) (length (callText call)) (state .next) (call .lines) in
-      let c : callPage call state ≡ pageOver (stands (callText call) (callPhrase call)) (length (callText call)) (length (call .lines)) (state .next) true = rw f in
+      let m = made-finished (standsIn (call .documents) (callText call) (callPhrase call)) (length (callText call)) (state .next) (call .lines) in
+      let c = page-of-state true f in
       let w : _≡_ {A = Written} (record { count = 0; more = false; next = record { 0 = state .next }; finished = state .finished }) (writtenOf (callPage call state)) =
       rw (c, f, sym (m .valueIs), sym (m .moreIs), sym (m .nextIs), sym (m .finishedIs)) in
       page-written e (record { count = 0; more = false; next = record { 0 = state .next }; finished = state .finished }) (call .lines) w (m .sliceIs ∙ ap (λ (x : HitPage). front (x .found) (call .lines)) (sym c))

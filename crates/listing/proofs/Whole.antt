@@ -1,6 +1,7 @@
 -- Demand 3: every list of page calls is complete. Assumes nothing.
 use Prim.Native.Nat.{ℕ, _+_, _≤_, _<_}
 use mathlib.Core.Path.{_≡_, refl, ap, ap₂, subst₂, _∙_}
+use mathlib.Core.Logic.{_↔_}
 use mathlib.Core.Bool.{Bool, true}
 use mathlib.Core.List.{List, _∷_, _++_}
 use native.Mathlib.Omega.{arith}
@@ -18,15 +19,16 @@ use Rattle.index.specs.Arrays.{Arrays, textIn}
 use Rattle.index.specs.Entries.{checkAnswer}
 use Rattle.index.proofs.Refusals.{check-limits}
 use Rattle.index.proofs.Exact.{index-exact}
-use Rattle.phrases.specs.Phrases.{stands, places}
 use Rattle.phrases.proofs.Exact.{places-are-exact}
+use Rattle.documents.specs.Documents.{areStarts, documentOf, standsIn, placesIn}
+use Rattle.documents.proofs.Exact.{documents-are-exact}
 use Rattle.pages.specs.Runs.{CompleteRun, IsPage, IsListing}
 use Rattle.pages.proofs.Pages.{page-within}
 use Rattle.pages.proofs.Complete.{every-run-complete}
 use Rattle.questions.specs.declared.Question.{Question}
-use Rattle.questions.specs.Answering.{askAnswer, questionAnswer, phraseAnswer, phraseIn, phraseCases}
+use Rattle.questions.specs.Answering.{askAnswerIn, questionAnswer, phraseAnswer, phraseIn, phraseCases}
 use Rattle.questions.specs.Passages.{passageAnswer, passageExit}
-use Rattle.questions.proofs.Read.{ask-passed, passage-accepted, passage-filled}
+use Rattle.questions.proofs.Read.{ask-in-passed, passage-accepted, passage-filled}
 use Rattle.listing.specs.declared.Listing.{Listing}
 use Rattle.listing.specs.Paging.{opened, Call, callText, callPhrase, pageOf}
 use Rattle.listing.specs.Completeness.{outcomeOf, foundBy, IsPart, Brings, isPage, resultAfter, Complete, ListingComplete, NextWithin}
@@ -37,38 +39,56 @@ use Rattle.listing.proofs.Paged.{accepted-call}
 abbrev stateOf : ℕ → Bool → Listing
 stateOf next finished = record { next = next; finished = finished }
 
-module _ (s : ℕ) (shape : Shape) (a : Arrays) (phrase : List ℕ) (within : Closing s) (passed : checkAnswer s shape a ≡ accepted 0)
-    (most : length phrase ≤ maxPhrase) (below : Below (shape .vocabulary) phrase) where
+module _ (s : ℕ) (shape : Shape) (a : Arrays) (documents phrase : List ℕ) (within : Closing s) (passed : checkAnswer s shape a ≡ accepted 0)
+    (keep : areStarts (length (textIn s a)) documents ≡ true) (most : length phrase ≤ maxPhrase) (below : Below (shape .vocabulary) phrase) where
   abbrev text : List ℕ
   text = textIn s a
 
-  -- a listing of the phrase is one over the places where it stands
-  is-listing : IsListing outcomeOf (λ (st : Listing). st .next) (λ (st : Listing). st .finished) (λ (c : Call). c .lines) (Brings s shape a phrase) (λ (st : Listing). Unit {0}) (stands text phrase) (length text)
+  -- whether the phrase stands at a place inside one document
+  abbrev hit : ℕ → Bool
+  hit = standsIn documents text phrase
+
+  -- a listing of the phrase is one over these places
+  is-listing : IsListing outcomeOf (λ (st : Listing). st .next) (λ (st : Listing). st .finished) (λ (c : Call). c .lines) (Brings s shape a documents phrase) (λ (st : Listing). Unit {0}) hit (length text)
   unfolding pageOf
   is-listing = record {
     refused = λ call state h. rw h;
     page = λ call state k b h.
         subst₂ (λ (f : ℕ → Bool) (n : ℕ). IsPage (λ (st : Listing). st .next) (λ (st : Listing). st .finished) f n (call .lines) state (outcomeOf call state))
-        (ap₂ stands (ap₂ textIn (b .sameClosing) (b .sameArrays)) (b .samePhrase .isPhrase)) (ap length (ap₂ textIn (b .sameClosing) (b .sameArrays)))
+        (rw (b .sameDocuments, b .sameClosing, b .sameArrays, b .samePhrase .isPhrase)) (ap length (ap₂ textIn (b .sameClosing) (b .sameArrays)))
         (own-page call state h);
     keeps = λ call state k b h. tt;
-    accepts = λ call state k b l h. call-accepted s shape a phrase passed most below call state b l h;
+    accepts = λ call state k b l h. call-accepted s shape a documents phrase passed keep most below call state b l h;
   }
 
   -- the count is accepted, and is the number of all places
-  count-of-all : (words : List ℕ) (q : Question) → q .kind ≡ 5 → IsPart words (q .start) (q .length) phrase → askAnswer s shape a words q ≡ accepted (length (places text phrase))
+  count-of-all : (words : List ℕ) (q : Question) → q .kind ≡ 5 → IsPart words (q .start) (q .length) phrase → askAnswerIn s shape a documents words q ≡ accepted (length (placesIn documents text phrase))
   unfolding questionAnswer phraseAnswer
   count-of-all words q k part =
-      ask-passed s shape a words q passed
-      ∙ rw k (answers (phraseCases (shape .vocabulary) words (q .start) (q .length)) (accepted (length (places text (phraseIn words (q .start) (q .length)))))
+      ask-in-passed s shape a documents words q passed keep
+      ∙ rw k (answers (phraseCases (shape .vocabulary) words (q .start) (q .length)) (accepted (length (placesIn documents text (phraseIn words (q .start) (q .length)))))
       (phrase-tests (shape .vocabulary) words (q .start) (q .length) phrase part most below)
-      ∙ ap (λ (p : List ℕ). accepted (length (places text p))) (part .isPhrase))
+      ∙ ap (λ (p : List ℕ). accepted (length (placesIn documents text p))) (part .isPhrase))
+
+  -- inside one document the phrase stands word for word, and each word lies in the document of the first
+  places-are : (q : ℕ) → (hit q ≡ true) ↔
+      ((q + length phrase ≤ length text)
+      × ((i : ℕ) → i < length phrase → (getD text (q + i) 0 ≡ getD phrase i 0) × (documentOf documents (q + i) ≡ documentOf documents q)))
+  places-are q =
+      let d = documents-are-exact documents text phrase in
+      let at = places-are-exact text phrase .standing q in (
+        λ e.
+            let both = d .standing q .0 e in
+            let w = at .0 (both .1) in
+            (w .0, λ i h. (w .1 i h, d .together q (length phrase) .0 (both .0) i h)),
+        λ h. d .standing q .1 (d .together q (length phrase) .1 (λ i l. h .1 i l .1), at .1 (h .0, λ i l. h .1 i l .0)),
+      )
 
   -- where the phrase stands, the passage of its length is accepted, and is the phrase
-  passage-is-phrase : (q : ℕ) → stands text phrase q ≡ true → (z : List ℕ) → length z ≡ length phrase
+  passage-is-phrase : (q : ℕ) → hit q ≡ true → (z : List ℕ) → length z ≡ length phrase
       → (passageAnswer s shape a q z ≡ accepted (length phrase)) × (passageExit s shape a q z ≡ phrase)
   passage-is-phrase q e z n =
-      let at = places-are-exact text phrase .standing q .0 e in
+      let at = places-are q .0 e in
       let i : q + length z ≤ length text = omega (arith, at .0) in (
         passage-accepted s shape a passed q z i ∙ ap accepted n,
         passage-filled s shape a passed q z i ∙ ap (λ (m : ℕ). take m (drop q text)) n
@@ -76,37 +96,37 @@ module _ (s : ℕ) (shape : Shape) (a : Arrays) (phrase : List ℕ) (within : Cl
             (length-take (length phrase) (drop q text) ∙ omega (arith, length-drop q text, at .0))
             (λ j l.
             let h : j < length phrase = omega (arith, length-take (length phrase) (drop q text)) in
-            getD-take (length phrase) (drop q text) j 0 h ∙ getD-drop q text j 0 ∙ at .1 j h),
+            getD-take (length phrase) (drop q text) j 0 h ∙ getD-drop q text j 0 ∙ at .1 j h .0),
       )
 
-  module _ (calls : List Call) (bring : (before : List Call) (call : Call) (after : List Call) → before ++ call ∷ after ≡ calls → isPage (resultAfter before call) ≡ true → Brings s shape a phrase call) where
-    run : CompleteRun outcomeOf (λ (st : Listing). st .next) (λ (st : Listing). st .finished) (λ (c : Call). c .lines) (Brings s shape a phrase) (stands text phrase) (length text) opened calls
+  module _ (calls : List Call) (bring : (before : List Call) (call : Call) (after : List Call) → before ++ call ∷ after ≡ calls → isPage (resultAfter before call) ≡ true → Brings s shape a documents phrase call) where
+    run : CompleteRun outcomeOf (λ (st : Listing). st .next) (λ (st : Listing). st .finished) (λ (c : Call). c .lines) (Brings s shape a documents phrase) hit (length text) opened calls
     run =
-        every-run-complete Call Listing outcomeOf (λ (st : Listing). st .next) (λ (st : Listing). st .finished) (λ (c : Call). c .lines) (Brings s shape a phrase) (λ (st : Listing). Unit {0})
-        (stands text phrase) (length text) is-listing opened refl refl tt calls bring
+        every-run-complete Call Listing outcomeOf (λ (st : Listing). st .next) (λ (st : Listing). st .finished) (λ (c : Call). c .lines) (Brings s shape a documents phrase) (λ (st : Listing). Unit {0})
+        hit (length text) is-listing opened refl refl tt calls bring
 
-    -- the phrase stands at each place found
-    found-stands : (i : ℕ) → i < length (foundBy calls) → stands text phrase (getD (foundBy calls) i 0) ≡ true
+    -- the phrase stands inside one document at each place found
+    found-stands : (i : ℕ) → i < length (foundBy calls) → hit (getD (foundBy calls) i 0) ≡ true
     found-stands i l = run .sound (getD (foundBy calls) i 0) (getD-mem (foundBy calls) i l) .1
 
-    pub whole : Complete s shape a phrase text calls
-    unfolding places
+    pub whole : Complete s shape a documents phrase text calls
+    unfolding placesIn
     whole = record {
       theText = index-exact s shape within .rebuilt a passed;
       noOther = λ u h. index-exact s shape within .onlyOne shape refl u text a (check-limits s within shape a passed .0) h (index-exact s shape within .rebuilt a passed);
-      thePlaces = places-are-exact text phrase .standing;
-      eachOnce = places-are-exact text phrase .once;
-      placesAscend = places-are-exact text phrase .inOrder;
-      noWordsEverywhere = places-are-exact text phrase .none;
+      thePlaces = places-are;
+      eachOnce = documents-are-exact documents text phrase .once;
+      placesAscend = documents-are-exact documents text phrase .inOrder;
+      noWordsEverywhere = λ none. documents-are-exact documents text phrase .none none ∙ places-are-exact text phrase .none none;
       firstPlaces = run .firstHits;
       ascending = run .ascending;
       nothingElse = found-stands;
       endReported = run .endReported;
       allFound = λ before call after e h m. run .allFound before call after e record { accepted = h; noMore = m };
       noneMissed = λ before call after e h m q st.
-          run .noneMissed before call after e record { accepted = h; noMore = m } q (omega (arith, places-are-exact text phrase .standing q .0 st .0)) st;
+          run .noneMissed before call after e record { accepted = h; noMore = m } q (omega (arith, places-are q .0 st .0)) st;
       lastReported = λ before call after e h q m none.
-          run .lastWritten before call after e q (rw h m) (λ p l i. false-of (stands text phrase p) (λ st. omega (arith, l, none p st))) .noMore;
+          run .lastWritten before call after e q (rw h m) (λ p l i. false-of (hit p) (λ st. omega (arith, l, none p st))) .noMore;
       noneReported = λ before call after e h none. run .noHits before call after e h (λ p l. none p) .noMore;
       endState = λ before call after e h m.
           let f = run .endState before call after e record { accepted = h; noMore = m } in
@@ -118,11 +138,11 @@ module _ (s : ℕ) (shape : Shape) (a : Arrays) (phrase : List ℕ) (within : Cl
     }
 
 pub listing-complete : ListingComplete
-listing-complete s shape a phrase within passed most below calls bring = whole s shape a phrase within passed most below calls bring
+listing-complete s shape a documents phrase within passed keep most below calls bring = whole s shape a documents phrase within passed keep most below calls bring
 
 -- an accepted page is one over the places of its text, of which none is above n
 pub next-within : NextWithin
 unfolding pageOf
 next-within call state h =
     let p = own-page call state h in
-    rw (p .nextIs) (page-within (stands (callText call) (callPhrase call)) (length (callText call)) (length (call .lines)) (p .someLine) (state .next) (accepted-call call state h .inside) (state .finished))
+    rw (p .nextIs) (page-within (standsIn (call .documents) (callText call) (callPhrase call)) (length (callText call)) (length (call .lines)) (p .someLine) (state .next) (accepted-call call state h .inside) (state .finished))

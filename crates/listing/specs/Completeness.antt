@@ -13,10 +13,10 @@ use Rattle.index.specs.declared.Shape.{Shape}
 use Rattle.index.specs.Arrays.{Arrays, textIn}
 use Rattle.index.specs.Entries.{checkAnswer}
 use Rattle.index.specs.Exact.{HasIndex}
-use Rattle.phrases.specs.Phrases.{stands, places}
+use Rattle.documents.specs.Documents.{areStarts, documentOf, standsIn, placesIn}
 use Rattle.pages.specs.Runs.{Outcome, stateAfter, found, linesHad}
 use Rattle.questions.specs.declared.Question.{Question}
-use Rattle.questions.specs.Answering.{askAnswer, phraseIn}
+use Rattle.questions.specs.Answering.{askAnswerIn, phraseIn}
 use Rattle.questions.specs.Passages.{passageAnswer, passageExit}
 use Rattle.listing.specs.declared.Listing.{Listing}
 use Rattle.listing.specs.Paging.{opened, Call, callText, PageResult, pageOf}
@@ -59,57 +59,62 @@ pub record IsPart (words : List ℕ) (start len : ℕ) (phrase : List ℕ) : Typ
   pub inside : start + len ≤ length words
   pub isPhrase : phraseIn words start len ≡ phrase
 
--- a call brings the phrase and, unchanged, the number of closing values, V, B, b and the four slices
-pub record Brings (s : ℕ) (shape : Shape) (a : Arrays) (phrase : List ℕ) (call : Call) : Type 0 where
+-- a call brings the phrase and, unchanged, the number of closing values, V, B, b, the four slices and the document starts
+pub record Brings (s : ℕ) (shape : Shape) (a : Arrays) (documents phrase : List ℕ) (call : Call) : Type 0 where
   pub sameClosing : call .closing ≡ s
   pub sameShape : call .shape ≡ shape
   pub sameArrays : call .arrays ≡ a
+  pub sameDocuments : call .documents ≡ documents
   pub samePhrase : IsPart (call .words) (call .start) (call .len) phrase
 
--- what holds of the text t, the phrase, and a list of calls from an opened listing
-pub record Complete (s : ℕ) (shape : Shape) (a : Arrays) (phrase t : List ℕ) (calls : List Call) : Type 0 where
+-- what holds of the text t, its documents, the phrase, and a list of calls from an opened listing
+pub record Complete (s : ℕ) (shape : Shape) (a : Arrays) (documents phrase t : List ℕ) (calls : List Call) : Type 0 where
   -- the text has the slices as its index, and no other text has
   pub theText : HasIndex s shape t a
   pub noOther : (u : List ℕ) → HasIndex s shape u a → u ≡ t
-  -- the places are those q with q + m ≤ n where all m words of the phrase agree
+  -- the places are those q with q + m ≤ n where all m words of the phrase agree and lie in the document of the first
   pub thePlaces :
       (q : ℕ) →
-      (stands t phrase q ≡ true) ↔ ((q + length phrase ≤ length t) × ((i : ℕ) → i < length phrase → getD t (q + i) 0 ≡ getD phrase i 0))
-  -- `places` lists them ascending, all of them and each once
-  pub eachOnce : (q : ℕ) → countOf q (places t phrase) ≡ cond (stands t phrase q) 1 0
-  pub placesAscend : (i j : ℕ) → i < j → j < length (places t phrase) → getD (places t phrase) i 0 < getD (places t phrase) j 0
-  -- a phrase of no words stands at every place from 0 to n
-  pub noWordsEverywhere : length phrase ≡ 0 → places t phrase ≡ rangeFrom 0 (suc (length t))
+      (standsIn documents t phrase q ≡ true) ↔
+      ((q + length phrase ≤ length t)
+      × ((i : ℕ) → i < length phrase → (getD t (q + i) 0 ≡ getD phrase i 0) × (documentOf documents (q + i) ≡ documentOf documents q)))
+  -- `placesIn` lists them ascending, all of them and each once
+  pub eachOnce : (q : ℕ) → countOf q (placesIn documents t phrase) ≡ cond (standsIn documents t phrase q) 1 0
+  pub placesAscend :
+      (i j : ℕ) → i < j → j < length (placesIn documents t phrase) →
+      getD (placesIn documents t phrase) i 0 < getD (placesIn documents t phrase) j 0
+  -- a phrase of no words stands at every place from 0 to n, whatever the documents
+  pub noWordsEverywhere : length phrase ≡ 0 → placesIn documents t phrase ≡ rangeFrom 0 (suc (length t))
   -- found are the first of them, as many as the accepted pages had lines, or every place if there are fewer
-  pub firstPlaces : foundBy calls ≡ take (linesOf calls) (places t phrase)
+  pub firstPlaces : foundBy calls ≡ take (linesOf calls) (placesIn documents t phrase)
   -- found is ascending, so that nothing is found twice
   pub ascending : (i j : ℕ) → i < j → j < length (foundBy calls) → getD (foundBy calls) i 0 < getD (foundBy calls) j 0
-  -- nothing else is found: the phrase stands at each place found
-  pub nothingElse : (i : ℕ) → i < length (foundBy calls) → stands t phrase (getD (foundBy calls) i 0) ≡ true
+  -- nothing else is found: the phrase stands inside one document at each place found
+  pub nothingElse : (i : ℕ) → i < length (foundBy calls) → standsIn documents t phrase (getD (foundBy calls) i 0) ≡ true
   -- an accepted page reports the end exactly when, with it, every place has been found
   pub endReported :
       (before : List Call) (call : Call) (after : List Call) → before ++ call ∷ after ≡ calls →
       isPage (resultAfter before call) ≡ true →
-      (resultAfter before call .page .more ≡ false) ↔ (foundBy (before ++ call ∷ []) ≡ places t phrase)
+      (resultAfter before call .page .more ≡ false) ↔ (foundBy (before ++ call ∷ []) ≡ placesIn documents t phrase)
   -- once a page has reported the end, every place is found by the list of calls
   pub allFound :
       (before : List Call) (call : Call) (after : List Call) → before ++ call ∷ after ≡ calls →
-      isPage (resultAfter before call) ≡ true → resultAfter before call .page .more ≡ false → foundBy calls ≡ places t phrase
-  -- and so is each place at which the phrase stands
+      isPage (resultAfter before call) ≡ true → resultAfter before call .page .more ≡ false → foundBy calls ≡ placesIn documents t phrase
+  -- and so is each place at which the phrase stands inside one document
   pub noneMissed :
       (before : List Call) (call : Call) (after : List Call) → before ++ call ∷ after ≡ calls →
       isPage (resultAfter before call) ≡ true → resultAfter before call .page .more ≡ false →
-      (q : ℕ) → stands t phrase q ≡ true → List·Memᴰ q (foundBy calls)
+      (q : ℕ) → standsIn documents t phrase q ≡ true → List·Memᴰ q (foundBy calls)
   -- the page that takes the last place reports the end
   pub lastReported :
       (before : List Call) (call : Call) (after : List Call) → before ++ call ∷ after ≡ calls →
       isPage (resultAfter before call) ≡ true →
-      (q : ℕ) → List·Memᴰ q (hitsOf (resultAfter before call)) → ((p : ℕ) → stands t phrase p ≡ true → p ≤ q) →
+      (q : ℕ) → List·Memᴰ q (hitsOf (resultAfter before call)) → ((p : ℕ) → standsIn documents t phrase p ≡ true → p ≤ q) →
       resultAfter before call .page .more ≡ false
-  -- where the phrase stands nowhere, each accepted page reports the end, so the first one does
+  -- where the phrase stands nowhere inside one document, each accepted page reports the end, so the first one does
   pub noneReported :
       (before : List Call) (call : Call) (after : List Call) → before ++ call ∷ after ≡ calls →
-      isPage (resultAfter before call) ≡ true → ((p : ℕ) → stands t phrase p ≡ false) → resultAfter before call .page .more ≡ false
+      isPage (resultAfter before call) ≡ true → ((p : ℕ) → standsIn documents t phrase p ≡ false) → resultAfter before call .page .more ≡ false
   -- an accepted page that reports the end hands back a finished state with next n
   pub endState :
       (before : List Call) (call : Call) (after : List Call) → before ++ call ∷ after ≡ calls →
@@ -122,29 +127,29 @@ pub record Complete (s : ℕ) (shape : Shape) (a : Arrays) (phrase t : List ℕ)
   -- a call of the list that brings the same and a page of one line or more is accepted
   pub pageAccepted :
       (before : List Call) (call : Call) (after : List Call) → before ++ call ∷ after ≡ calls →
-      Brings s shape a phrase call → 1 ≤ length (call .lines) → isPage (resultAfter before call) ≡ true
-  -- the count of the phrase, kind 5, is accepted, and is the number of all places where it stands
+      Brings s shape a documents phrase call → 1 ≤ length (call .lines) → isPage (resultAfter before call) ≡ true
+  -- the count of the phrase, kind 5, with the same document starts is accepted, and is the number of all these places
   pub countOfAll :
       (words : List ℕ) (q : Question) → q .kind ≡ 5 → IsPart words (q .start) (q .length) phrase →
-      askAnswer s shape a words q ≡ accepted (length (places t phrase))
+      askAnswerIn s shape a documents words q ≡ accepted (length (placesIn documents t phrase))
   -- the passage of the phrase's length at each place found is accepted, and is the phrase
   pub passageIsPhrase :
       (i : ℕ) → i < length (foundBy calls) → (z : List ℕ) → length z ≡ length phrase →
       (passageAnswer s shape a (getD (foundBy calls) i 0) z ≡ accepted (length phrase))
       × (passageExit s shape a (getD (foundBy calls) i 0) z ≡ phrase)
 
--- Statement of demand 3, at every number of closing values: for arrays that pass the check, one phrase of up to 16 words of the
--- vocabulary, or of no words, and every list of page calls, the empty one too, of which the accepted ones bring that phrase and those
--- arrays, the refused ones anything.
+-- Statement of demand 3, at every number of closing values: for arrays that pass the check, document starts that keep the rules, those of
+-- a text that is one document too, one phrase of up to 16 words of the vocabulary, or of no words, and every list of page calls, the empty
+-- one too, of which the accepted ones bring that phrase, those arrays and those starts, the refused ones anything.
 abbrev pub ListingComplete : Type 0
 ListingComplete =
-    (s : ℕ) (shape : Shape) (a : Arrays) (phrase : List ℕ) → Closing s →
-    checkAnswer s shape a ≡ accepted 0 →
+    (s : ℕ) (shape : Shape) (a : Arrays) (documents phrase : List ℕ) → Closing s →
+    checkAnswer s shape a ≡ accepted 0 → areStarts (length (textIn s a)) documents ≡ true →
     length phrase ≤ maxPhrase → Below (shape .vocabulary) phrase →
     (calls : List Call) →
     ((before : List Call) (call : Call) (after : List Call) → before ++ call ∷ after ≡ calls →
-    isPage (resultAfter before call) ≡ true → Brings s shape a phrase call) →
-    Complete s shape a phrase (textIn s a) calls
+    isPage (resultAfter before call) ≡ true → Brings s shape a documents phrase call) →
+    Complete s shape a documents phrase (textIn s a) calls
 
 -- Statement: an accepted page hands back a next place that is not above n, whatever state it was handed and whatever it brings.
 abbrev pub NextWithin : Type 0

@@ -1,3 +1,4 @@
 pub mod Paging
 pub mod Completeness
 pub mod NoWords
+pub mod WithoutStarts

@@ -1,4 +1,4 @@
--- Statement: the pages of a listing of the phrase of no words, which stands at every place from 0 to n.
+-- Statement: the pages of a listing of the phrase of no words, which stands at every place from 0 to n, whatever the documents.
 use Prim.Native.Nat.{ℕ, suc, _+_, _-_, _≤_, _<_}
 use mathlib.Core.Path.{_≡_}
 use mathlib.Core.Bool.{Bool, true, false}
@@ -26,7 +26,7 @@ pub record NoWordsPage (n : ℕ) (call : Call) (state : Listing) : Type 0 where
       n < state .next + length (call .lines) →
       pageOf call state ≡ placesPage (suc n - state .next) false n true (front (rangeFrom (state .next) (suc n - state .next)) (call .lines))
 
--- Statement: every accepted page of a phrase of no words, over a state that is not finished.
+-- Statement: every accepted page of a phrase of no words, with any document starts, over a state that is not finished.
 abbrev pub NoWordsListed : Type 0
 NoWordsListed =
     (call : Call) (state : Listing) → isAccepted (pageAnswer call state) ≡ true → call .len ≡ 0 → state .finished ≡ false →

@@ -1,9 +1,12 @@
-// A listing of the places where a phrase stands, page by page.
+// A listing of the places where a phrase stands, page by page: anywhere in the text, or only inside
+// one document.
 ghost use mathlib.Core.Path.{_≡_};
 ghost use mathlib.Core.Bool.{true, false};
+ghost use lib.ListN.{length};
 ghost use Rattle.base.specs.Answers.{isAccepted};
 ghost use Rattle.dense.specs.Code.{Closing};
-ghost use Rattle.index.specs.Arrays.{arrays};
+ghost use Rattle.index.specs.Arrays.{arrays, textIn};
+ghost use Rattle.documents.specs.Documents.{oneStart};
 ghost use Rattle.listing.specs.Paging.{opened, unwritten, callOf, requestAnswer, pageAnswer, pageOf};
 use base::Answer;
 use base::refusal;
@@ -64,7 +67,42 @@ impl Listing {
         count: usize,
         lines: &mut [u32],
     ) -> Page
-        ensures { λ r. ⌜ (r ≡ pageOf (callOf 128 shape (arrays (now (lengths .entry)) (now (bytes .entry)) (now (superblocks .entry)) (now (blocks .entry))) (now (words .entry)) start count (now (lines .entry))) self .page) × (now (lines .exit) ≡ pageOf (callOf 128 shape (arrays (now (lengths .entry)) (now (bytes .entry)) (now (superblocks .entry)) (now (blocks .entry))) (now (words .entry)) start count (now (lines .entry))) self .lines) ⌝ }
+        ensures { λ r. ⌜ (r ≡ pageOf (callOf 128 shape (arrays (now (lengths .entry)) (now (bytes .entry)) (now (superblocks .entry)) (now (blocks .entry))) (oneStart (length (textIn 128 (arrays (now (lengths .entry)) (now (bytes .entry)) (now (superblocks .entry)) (now (blocks .entry)))))) (now (words .entry)) start count (now (lines .entry))) self .page) × (now (lines .exit) ≡ pageOf (callOf 128 shape (arrays (now (lengths .entry)) (now (bytes .entry)) (now (superblocks .entry)) (now (blocks .entry))) (oneStart (length (textIn 128 (arrays (now (lengths .entry)) (now (bytes .entry)) (now (superblocks .entry)) (now (blocks .entry)))))) (now (words .entry)) start count (now (lines .entry))) self .lines) ⌝ }
+    {
+        let zero = [0u32; 1];
+        page_of(
+            self,
+            dense::CLOSING,
+            shape,
+            lengths,
+            bytes,
+            superblocks,
+            blocks,
+            documents::one_start(&zero, lengths),
+            words,
+            start,
+            count,
+            lines,
+        )
+    }
+
+    // The next page of the listing of the places where the phrase stands inside one document, by the
+    // document starts that are brought. Refusals 1, 3, 6, 19, 8, 9, 11 and 12 hand back the state
+    // and leave the lines.
+    pub fn page_in_documents(
+        self,
+        shape: Shape,
+        lengths: &[u32],
+        bytes: &[u8],
+        superblocks: &[u32],
+        blocks: &[u16],
+        documents: &[u32],
+        words: &[u32],
+        start: usize,
+        count: usize,
+        lines: &mut [u32],
+    ) -> Page
+        ensures { λ r. ⌜ (r ≡ pageOf (callOf 128 shape (arrays (now (lengths .entry)) (now (bytes .entry)) (now (superblocks .entry)) (now (blocks .entry))) (now (documents .entry)) (now (words .entry)) start count (now (lines .entry))) self .page) × (now (lines .exit) ≡ pageOf (callOf 128 shape (arrays (now (lengths .entry)) (now (bytes .entry)) (now (superblocks .entry)) (now (blocks .entry))) (now (documents .entry)) (now (words .entry)) start count (now (lines .entry))) self .lines) ⌝ }
     {
         page_of(
             self,
@@ -74,6 +112,7 @@ impl Listing {
             bytes,
             superblocks,
             blocks,
+            documents,
             words,
             start,
             count,
@@ -82,8 +121,8 @@ impl Listing {
     }
 }
 
-// The answer of the tests of a page call after the check of its index: of the phrase, of the next
-// place in a text of n words, and of the page's room; 0 accepted where none refuses.
+// The answer of the tests of a page call after those of its index and of its starts: of the phrase,
+// of the next place in a text of n words, and of the page's room; 0 accepted where none refuses.
 fn request_answer(
     vocabulary: usize,
     words: &[u32],
@@ -117,13 +156,14 @@ fn written_page(
     bytes: &[u8],
     superblocks: &[u32],
     blocks: &[u16],
+    documents: &[u32],
     words: &[u32],
     start: usize,
     count: usize,
     lines: &mut [u32],
 ) -> Page
-    requires { ⌜ Closing s × (isAccepted (pageAnswer (callOf s shape (arrays (now lengths) (now bytes) (now superblocks) (now blocks)) (now words) start count (now lines)) state) ≡ true) × (state .finished ≡ false) ⌝ }
-    ensures { λ r. ⌜ (r ≡ pageOf (callOf s shape (arrays (now (lengths .entry)) (now (bytes .entry)) (now (superblocks .entry)) (now (blocks .entry))) (now (words .entry)) start count (now (lines .entry))) state .page) × (now (lines .exit) ≡ pageOf (callOf s shape (arrays (now (lengths .entry)) (now (bytes .entry)) (now (superblocks .entry)) (now (blocks .entry))) (now (words .entry)) start count (now (lines .entry))) state .lines) ⌝ }
+    requires { ⌜ Closing s × (isAccepted (pageAnswer (callOf s shape (arrays (now lengths) (now bytes) (now superblocks) (now blocks)) (now documents) (now words) start count (now lines)) state) ≡ true) × (state .finished ≡ false) ⌝ }
+    ensures { λ r. ⌜ (r ≡ pageOf (callOf s shape (arrays (now (lengths .entry)) (now (bytes .entry)) (now (superblocks .entry)) (now (blocks .entry))) (now (documents .entry)) (now (words .entry)) start count (now (lines .entry))) state .page) × (now (lines .exit) ≡ pageOf (callOf s shape (arrays (now (lengths .entry)) (now (bytes .entry)) (now (superblocks .entry)) (now (blocks .entry))) (now (documents .entry)) (now (words .entry)) start count (now (lines .entry))) state .lines) ⌝ }
 {
     let end = start + count;
     let next = Place(state.next);
@@ -134,6 +174,7 @@ fn written_page(
         bytes,
         superblocks,
         blocks,
+        documents,
         &words[start..end],
         next,
         lines,
@@ -148,7 +189,8 @@ fn written_page(
     }
 }
 
-// A page of a listing with s closing values: all that it returns and writes is that of paper 01.
+// A page of a listing with s closing values and document starts: all that it returns and writes is
+// that of the papers.
 pub fn page_of(
     state: Listing,
     s: usize,
@@ -157,15 +199,24 @@ pub fn page_of(
     bytes: &[u8],
     superblocks: &[u32],
     blocks: &[u16],
+    documents: &[u32],
     words: &[u32],
     start: usize,
     count: usize,
     lines: &mut [u32],
 ) -> Page
     requires { ⌜ Closing s ⌝ }
-    ensures { λ r. ⌜ (r ≡ pageOf (callOf s shape (arrays (now (lengths .entry)) (now (bytes .entry)) (now (superblocks .entry)) (now (blocks .entry))) (now (words .entry)) start count (now (lines .entry))) state .page) × (now (lines .exit) ≡ pageOf (callOf s shape (arrays (now (lengths .entry)) (now (bytes .entry)) (now (superblocks .entry)) (now (blocks .entry))) (now (words .entry)) start count (now (lines .entry))) state .lines) ⌝ }
+    ensures { λ r. ⌜ (r ≡ pageOf (callOf s shape (arrays (now (lengths .entry)) (now (bytes .entry)) (now (superblocks .entry)) (now (blocks .entry))) (now (documents .entry)) (now (words .entry)) start count (now (lines .entry))) state .page) × (now (lines .exit) ≡ pageOf (callOf s shape (arrays (now (lengths .entry)) (now (bytes .entry)) (now (superblocks .entry)) (now (blocks .entry))) (now (documents .entry)) (now (words .entry)) start count (now (lines .entry))) state .lines) ⌝ }
 {
-    let checked = checking::check_of(s, shape, lengths, bytes, superblocks, blocks);
+    let checked = document_checks::check_in_documents(
+        s,
+        shape,
+        lengths,
+        bytes,
+        superblocks,
+        blocks,
+        documents,
+    );
     if checked.refusal != 0 {
         return Page::unwritten(checked, state);
     }
@@ -186,6 +237,7 @@ pub fn page_of(
         bytes,
         superblocks,
         blocks,
+        documents,
         words,
         start,
         count,

@@ -4,9 +4,10 @@
 // No function of this crate is an entry: each requires that the four slices have passed the check,
 // and `starts` is the table that `starts::node_starts` fills.
 ghost use mathlib.Core.Path.{_≡_};
+ghost use mathlib.Core.Bool.{true, _&&_};
 ghost use Prim.Native.Nat.{_+_, _≤_, _<_};
 ghost use lib.Dec.{eqb};
-ghost use lib.IntN.{pos, _+ℤ_};
+ghost use lib.IntN.{pos, _+ℤ_, natAbs};
 ghost use lib.ListN.{length};
 ghost use Rattle.base.specs.Lists.{Below};
 ghost use Rattle.base.specs.Answers.{front};
@@ -17,7 +18,8 @@ ghost use Rattle.words.specs.Words.{rankAt};
 ghost use Rattle.words.specs.Ready.{Ready};
 ghost use Rattle.phrases.specs.Phrases.{stands};
 ghost use Rattle.phrases.specs.Neighbours.{standsAt};
-ghost use Rattle.matching.specs.Sought.{hitAt};
+ghost use Rattle.documents.specs.Documents.{isAscending, sameDocument, standsIn};
+ghost use Rattle.matching.specs.Sought.{hitIn};
 ghost use Rattle.matching.specs.Searching.{firstBytes, Searching, Paired, MayStand};
 use index::Shape;
 use phrases::Found;
@@ -109,8 +111,9 @@ fn bytes_stand(firsts: &[u8], bytes: &[u8], at: Position) -> bool
     true
 }
 
-// Whether a phrase stands at a place of the text: the first bytes of its words are compared in the
-// root, and where they are those of the words there, the whole words.
+// Whether a phrase stands at a place of the text, inside one document: the first bytes of its words
+// are compared in the root, and where they are those of the words there, its last word must lie in
+// the document of its first, and the whole words are compared.
 fn stands_at(
     s: usize,
     shape: Shape,
@@ -119,14 +122,15 @@ fn stands_at(
     superblocks: &[u32],
     blocks: &[u16],
     starts: &[u32],
+    documents: &[u32],
     firsts: &[u8],
     words: &[u32],
     place: Place,
 ) -> bool
     ghost { Arrays }
     requires { λ a. ⌜ arrays (now lengths) (now bytes) (now superblocks) (now blocks) ≡ a ⌝ }
-    requires { λ a. ⌜ Searching s shape a (now starts) (now firsts) (now words) × (place .0 ≤ length (textIn s a)) ⌝ }
-    ensures { λ a r. ⌜ r ≡ stands (textIn s a) (now (words .entry)) (place .0) ⌝ }
+    requires { λ a. ⌜ Searching s shape a (now starts) (now firsts) (now words) × (place .0 ≤ length (textIn s a)) × (isAscending (now documents) ≡ true) ⌝ }
+    ensures { λ a r. ⌜ r ≡ standsIn (now (documents .entry)) (textIn s a) (now (words .entry)) (place .0) ⌝ }
 {
     let n = words::text_length(lengths);
     if n < place.0 + words.len() {
@@ -134,6 +138,10 @@ fn stands_at(
     }
     let alike = bytes_stand(firsts, bytes, tree::root_position(place));
     if !alike {
+        return false;
+    }
+    let together = documents::in_one_document(documents, place, words.len());
+    if !together {
         return false;
     }
     let same = words_stand(
@@ -150,8 +158,9 @@ fn stands_at(
     same
 }
 
-// Whether a rank with this first byte stands at a place of the text: the byte is compared in the
-// root, and where it is that of the word there, the whole word.
+// Whether a rank with this first byte stands at a place of the text, in the document of another
+// place: the byte is compared in the root, and where it is the one there, the documents and the
+// whole word.
 fn word_stands(
     s: usize,
     shape: Shape,
@@ -160,17 +169,22 @@ fn word_stands(
     superblocks: &[u32],
     blocks: &[u16],
     starts: &[u32],
+    documents: &[u32],
     first: u8,
     rank: usize,
+    from: Place,
     place: Place,
 ) -> bool
     ghost { Arrays }
     requires { λ a. ⌜ arrays (now lengths) (now bytes) (now superblocks) (now blocks) ≡ a ⌝ }
-    requires { λ a. ⌜ Ready s shape a (now starts) × (first ≡ firstByte (code s rank)) × (place .0 < length (textIn s a)) ⌝ }
-    ensures { λ a r. ⌜ r ≡ eqb (rankAt (textIn s a) (place .0)) rank ⌝ }
+    requires { λ a. ⌜ Ready s shape a (now starts) × (first ≡ firstByte (code s rank)) × (place .0 < length (textIn s a)) × (isAscending (now documents) ≡ true) ⌝ }
+    ensures { λ a r. ⌜ r ≡ sameDocument (now (documents .entry)) (from .0) (place .0) && eqb (rankAt (textIn s a) (place .0)) rank ⌝ }
 {
     let at = tree::root_position(place).0;
     if bytes[at] != first {
+        return false;
+    }
+    if !documents::same_document(documents, from, place) {
         return false;
     }
     agrees_at(
@@ -186,8 +200,8 @@ fn word_stands(
     )
 }
 
-// Whether a rank with this first byte stands at an offset from a place: never where that is outside
-// the text.
+// Whether a rank with this first byte stands at an offset from a place, in the same document: never
+// where that is outside the text.
 fn neighbour_at(
     s: usize,
     shape: Shape,
@@ -196,6 +210,7 @@ fn neighbour_at(
     superblocks: &[u32],
     blocks: &[u16],
     starts: &[u32],
+    documents: &[u32],
     first: u8,
     rank: usize,
     place: Place,
@@ -203,8 +218,8 @@ fn neighbour_at(
 ) -> bool
     ghost { Arrays }
     requires { λ a. ⌜ arrays (now lengths) (now bytes) (now superblocks) (now blocks) ≡ a ⌝ }
-    requires { λ a. ⌜ Ready s shape a (now starts) × (place .0 < length (textIn s a)) × (first ≡ firstByte (code s rank)) ⌝ }
-    ensures { λ a r. ⌜ r ≡ standsAt (textIn s a) rank (pos (place .0) +ℤ offset) ⌝ }
+    requires { λ a. ⌜ Ready s shape a (now starts) × (place .0 < length (textIn s a)) × (first ≡ firstByte (code s rank)) × (isAscending (now documents) ≡ true) ⌝ }
+    ensures { λ a r. ⌜ r ≡ sameDocument (now (documents .entry)) (place .0) (natAbs (pos (place .0) +ℤ offset)) && standsAt (textIn s a) rank (pos (place .0) +ℤ offset) ⌝ }
 {
     let n = words::text_length(lengths);
     let found = phrases::shifted(place, offset, n);
@@ -217,15 +232,17 @@ fn neighbour_at(
             superblocks,
             blocks,
             starts,
+            documents,
             first,
             rank,
+            place,
             at,
         ),
         Found::Outside => false,
     }
 }
 
-// Whether what is sought stands at a place that may have it.
+// Whether what is sought stands at a place that may have it, inside one document.
 pub fn hit_at(
     s: usize,
     shape: Shape,
@@ -234,6 +251,7 @@ pub fn hit_at(
     superblocks: &[u32],
     blocks: &[u16],
     starts: &[u32],
+    documents: &[u32],
     firsts: &[u8],
     words: &[u32],
     sought: Sought,
@@ -241,8 +259,8 @@ pub fn hit_at(
 ) -> bool
     ghost { Arrays }
     requires { λ a. ⌜ arrays (now lengths) (now bytes) (now superblocks) (now blocks) ≡ a ⌝ }
-    requires { λ a. ⌜ Searching s shape a (now starts) (now firsts) (now words) × Paired (now words) sought × MayStand (textIn s a) (now words) sought (place .0) ⌝ }
-    ensures { λ a r. ⌜ r ≡ hitAt (textIn s a) (now (words .entry)) sought (place .0) ⌝ }
+    requires { λ a. ⌜ Searching s shape a (now starts) (now firsts) (now words) × Paired (now words) sought × MayStand (textIn s a) (now words) sought (place .0) × (isAscending (now documents) ≡ true) ⌝ }
+    ensures { λ a r. ⌜ r ≡ hitIn (now (documents .entry)) (textIn s a) (now (words .entry)) sought (place .0) ⌝ }
 {
     match sought {
         Sought::Phrase => stands_at(
@@ -253,6 +271,7 @@ pub fn hit_at(
             superblocks,
             blocks,
             starts,
+            documents,
             firsts,
             words,
             place,
@@ -265,6 +284,7 @@ pub fn hit_at(
             superblocks,
             blocks,
             starts,
+            documents,
             firsts[1],
             words[1] as usize,
             place,

@@ -1,10 +1,10 @@
-// A page of the places at which a phrase stands: a short loop over the search for the next hit, and
+// A page of the places at which a phrase stands inside one document: a short loop over the search for the next hit, and
 // one over all places for the phrase of no words.
 //
 // No function of this crate is an entry: `fill_page` and `write_page` require that the four slices
 // have passed the check, and `starts` is the table that `starts::node_starts` fills.
 ghost use mathlib.Core.Path.{_≡_};
-ghost use mathlib.Core.Bool.{false};
+ghost use mathlib.Core.Bool.{true, false};
 ghost use Prim.Native.Nat.{_≤_};
 ghost use lib.ListN.{length};
 ghost use Rattle.base.specs.Lists.{Below};
@@ -12,7 +12,7 @@ ghost use Rattle.base.specs.Texts.{maxWords, maxPhrase};
 ghost use Rattle.base.specs.Answers.{front};
 ghost use Rattle.index.specs.Arrays.{Arrays, arrays, textIn};
 ghost use Rattle.words.specs.Ready.{Checked};
-ghost use Rattle.phrases.specs.Phrases.{stands};
+ghost use Rattle.documents.specs.Documents.{isAscending, standsIn};
 ghost use Rattle.pages.specs.Pages.{pageOver};
 ghost use Rattle.matching.specs.Searching.{Searching};
 ghost use Rattle.paging.specs.Places.{everyPlace};
@@ -58,8 +58,9 @@ impl Written {
     }
 }
 
-// Writes the places at or after the next one at which a phrase with these first bytes stands to the
-// front of a slice, until it is full or they run out. It stops at the one hit after a full slice.
+// Writes the places at or after the next one at which a phrase with these first bytes stands inside
+// one document to the front of a slice, until it is full or they run out. It stops at the one hit
+// after a full slice.
 fn fill_page(
     s: usize,
     shape: Shape,
@@ -68,6 +69,7 @@ fn fill_page(
     superblocks: &[u32],
     blocks: &[u16],
     starts: &[u32],
+    documents: &[u32],
     firsts: &[u8],
     words: &[u32],
     next: Place,
@@ -75,9 +77,9 @@ fn fill_page(
 ) -> Written
     ghost { Arrays }
     requires { λ a. ⌜ arrays (now lengths) (now bytes) (now superblocks) (now blocks) ≡ a ⌝ }
-    requires { λ a. ⌜ Searching s shape a (now starts) (now firsts) (now words) × (next .0 ≤ length (textIn s a)) ⌝ }
-    ensures { λ a r. ⌜ (r ≡ writtenOf (pageOver (stands (textIn s a) (now (words .entry))) (length (textIn s a)) (length (now (lines .entry))) (next .0) false))
-        × (now (lines .exit) ≡ front (pageOver (stands (textIn s a) (now (words .entry))) (length (textIn s a)) (length (now (lines .entry))) (next .0) false .found) (now (lines .entry))) ⌝ }
+    requires { λ a. ⌜ Searching s shape a (now starts) (now firsts) (now words) × (next .0 ≤ length (textIn s a)) × (isAscending (now documents) ≡ true) ⌝ }
+    ensures { λ a r. ⌜ (r ≡ writtenOf (pageOver (standsIn (now (documents .entry)) (textIn s a) (now (words .entry))) (length (textIn s a)) (length (now (lines .entry))) (next .0) false))
+        × (now (lines .exit) ≡ front (pageOver (standsIn (now (documents .entry)) (textIn s a) (now (words .entry))) (length (textIn s a)) (length (now (lines .entry))) (next .0) false .found) (now (lines .entry))) ⌝ }
 {
     let n = words::text_length(lengths);
     let end = Place(n + 1);
@@ -104,6 +106,7 @@ fn fill_page(
             superblocks,
             blocks,
             starts,
+            documents,
             firsts,
             words,
             Sought::Phrase,
@@ -147,8 +150,9 @@ fn write_places(from: Place, end: Place, lines: &mut [u32]) -> Written
     Written::ended(count, end.0)
 }
 
-// Writes a page of the places at or after the next one at which a phrase stands. One of no words
-// stands at every place of the text, its end too: no table is made for it, and nothing is sought.
+// Writes a page of the places at or after the next one at which a phrase stands inside one document.
+// One of no words stands at every place of the text, its end too: no table is made for it, and
+// nothing is sought.
 pub fn write_page(
     s: usize,
     shape: Shape,
@@ -156,15 +160,16 @@ pub fn write_page(
     bytes: &[u8],
     superblocks: &[u32],
     blocks: &[u16],
+    documents: &[u32],
     words: &[u32],
     next: Place,
     lines: &mut [u32],
 ) -> Written
     ghost { Arrays }
     requires { λ a. ⌜ arrays (now lengths) (now bytes) (now superblocks) (now blocks) ≡ a ⌝ }
-    requires { λ a. ⌜ Checked s shape a × (length (now words) ≤ maxPhrase) × Below (shape .vocabulary) (now words) × (next .0 ≤ length (textIn s a)) ⌝ }
-    ensures { λ a r. ⌜ (r ≡ writtenOf (pageOver (stands (textIn s a) (now (words .entry))) (length (textIn s a)) (length (now (lines .entry))) (next .0) false))
-        × (now (lines .exit) ≡ front (pageOver (stands (textIn s a) (now (words .entry))) (length (textIn s a)) (length (now (lines .entry))) (next .0) false .found) (now (lines .entry))) ⌝ }
+    requires { λ a. ⌜ Checked s shape a × (length (now words) ≤ maxPhrase) × Below (shape .vocabulary) (now words) × (next .0 ≤ length (textIn s a)) × (isAscending (now documents) ≡ true) ⌝ }
+    ensures { λ a r. ⌜ (r ≡ writtenOf (pageOver (standsIn (now (documents .entry)) (textIn s a) (now (words .entry))) (length (textIn s a)) (length (now (lines .entry))) (next .0) false))
+        × (now (lines .exit) ≡ front (pageOver (standsIn (now (documents .entry)) (textIn s a) (now (words .entry))) (length (textIn s a)) (length (now (lines .entry))) (next .0) false .found) (now (lines .entry))) ⌝ }
 {
     let m = words.len();
     if m == 0 {
@@ -183,6 +188,7 @@ pub fn write_page(
         superblocks,
         blocks,
         &starts,
+        documents,
         &table[..m],
         words,
         next,

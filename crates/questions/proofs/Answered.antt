@@ -24,10 +24,9 @@ use Rattle.index.specs.declared.Shape.{Shape}
 use Rattle.index.specs.Arrays.{Arrays, textIn}
 use Rattle.index.specs.Entries.{indexCases, checkAnswer}
 use Rattle.words.specs.Words.{rankAt, occurrencesBelow, frequency, nthPlace}
-use Rattle.phrases.specs.Phrases.{places}
-use Rattle.phrases.specs.Neighbours.{neighbours}
+use Rattle.documents.specs.Documents.{placesIn, neighboursIn}
 use Rattle.questions.specs.declared.Question.{Question}
-use Rattle.questions.specs.Answering.{rankAskedCase, phraseIn, phraseCases, phraseRefusal, wordAtAnswer, occurrencesAnswer, placeAnswer, neighboursAnswer, phraseAnswer, questionAnswer, askAnswer}
+use Rattle.questions.specs.Answering.{rankAskedCase, phraseIn, phraseCases, phraseRefusal, wordAtAnswer, occurrencesAnswer, placeAnswer, neighboursAnswer, phraseAnswer, questionAnswer}
 use Rattle.questions.specs.Passages.{passageAnswer, passageExit}
 
 -- kind 1
@@ -106,26 +105,26 @@ offset-near (pos k) e h = ltb-false 16 k h
 offset-near (negsuc k) e h = omega (arith, ltb-false 15 k e)
 
 -- kind 4
-module _ (vocab : ℕ) (t : List ℕ) (w v : ℕ) (d : ℤ) where
-  neighbours-asked : not (ranksBelow vocab (w ∷ v ∷ [])) ≡ true → neighboursAnswer vocab t w v d ≡ refused refusalAskedRank
+module _ (vocab : ℕ) (t documents : List ℕ) (w v : ℕ) (d : ℤ) where
+  neighbours-asked : not (ranksBelow vocab (w ∷ v ∷ [])) ≡ true → neighboursAnswer vocab t documents w v d ≡ refused refusalAskedRank
   unfolding neighboursAnswer rankAskedCase
   neighbours-asked h = first-here (not (ranksBelow vocab (w ∷ v ∷ []))) (refused refusalAskedRank) ((ltb maxOffset (natAbs d) ⇒ refused refusalOffset) ∷ []) _ h
 
-  pub neighbours-first : vocab ≤ w → neighboursAnswer vocab t w v d ≡ refused refusalAskedRank
+  pub neighbours-first : vocab ≤ w → neighboursAnswer vocab t documents w v d ≡ refused refusalAskedRank
   neighbours-first h = neighbours-asked (first-above vocab w v h)
 
-  pub neighbours-second : w < vocab → vocab ≤ v → neighboursAnswer vocab t w v d ≡ refused refusalAskedRank
+  pub neighbours-second : w < vocab → vocab ≤ v → neighboursAnswer vocab t documents w v d ≡ refused refusalAskedRank
   neighbours-second h k = neighbours-asked (second-above vocab w v h k)
 
-  pub neighbours-far : w < vocab → v < vocab → maxOffset < natAbs d → neighboursAnswer vocab t w v d ≡ refused refusalOffset
+  pub neighbours-far : w < vocab → v < vocab → maxOffset < natAbs d → neighboursAnswer vocab t documents w v d ≡ refused refusalOffset
   unfolding neighboursAnswer rankAskedCase
   neighbours-far h k l =
       first-later (not (ranksBelow vocab (w ∷ v ∷ []))) (refused refusalAskedRank) ((ltb maxOffset (natAbs d) ⇒ refused refusalOffset) ∷ []) _ (two-below vocab w v h k)
       ∙ first-here (ltb maxOffset (natAbs d)) (refused refusalOffset) [] _ (lt-ltb maxOffset (natAbs d) l)
 
-  pub neighbours-near : w < vocab → v < vocab → natAbs d ≤ maxOffset → neighboursAnswer vocab t w v d ≡ accepted (neighbours t w v d)
+  pub neighbours-near : w < vocab → v < vocab → natAbs d ≤ maxOffset → neighboursAnswer vocab t documents w v d ≡ accepted (neighboursIn documents t w v d)
   unfolding neighboursAnswer rankAskedCase
-  neighbours-near h k l = answers (rankAskedCase vocab (w ∷ v ∷ []) ∷ (ltb maxOffset (natAbs d) ⇒ refused refusalOffset) ∷ []) (accepted (neighbours t w v d)) (two-below vocab w v h k, (le-ltb maxOffset (natAbs d) l, tt))
+  neighbours-near h k l = answers (rankAskedCase vocab (w ∷ v ∷ []) ∷ (ltb maxOffset (natAbs d) ⇒ refused refusalOffset) ∷ []) (accepted (neighboursIn documents t w v d)) (two-below vocab w v h k, (le-ltb maxOffset (natAbs d) l, tt))
 
 -- a phrase that is not refused: it has up to 16 words, lies in the lent words, and has ranks below V
 pub record PhraseFits (vocab : ℕ) (words : List ℕ) (start len : ℕ) : Type 0 where
@@ -191,9 +190,9 @@ module _ (vocab : ℕ) (words : List ℕ) (start len : ℕ) where
       let part = or-neither (ltb maxPhrase len) (ltb (length words) (start + len)) (n .0) in
       record { most = ltb-false maxPhrase len (part .0); inside = ltb-false (length words) (start + len) (part .1); below = not-false (ranksBelow vocab (phraseIn words start len)) (n .1 .0) }
 
-  pub phrase-counted : (t : List ℕ) → phraseRefusal vocab words start len ≡ 0 → phraseAnswer vocab t words start len ≡ accepted (length (places t (phraseIn words start len)))
+  pub phrase-counted : (t documents : List ℕ) → phraseRefusal vocab words start len ≡ 0 → phraseAnswer vocab t documents words start len ≡ accepted (length (placesIn documents t (phraseIn words start len)))
   unfolding phraseAnswer
-  phrase-counted t e = answers (phraseCases vocab words start len) (accepted (length (places t (phraseIn words start len)))) (phrase-clear e)
+  phrase-counted t documents e = answers (phraseCases vocab words start len) (accepted (length (placesIn documents t (phraseIn words start len)))) (phrase-clear e)
 
   -- of two refusals
   refused-number : (x y : Bool) (value : ℕ) → (firstOf ((x ⇒ refused refusalPhrase) ∷ (y ⇒ refused refusalAskedRank) ∷ []) (accepted 0) .refusal ≡ 0 → ⊥)
@@ -203,33 +202,33 @@ module _ (vocab : ℕ) (words : List ℕ) (start len : ℕ) where
   refused-number false true value h = refl
   refused-number false false value h = absurd (h refl)
 
-  pub phrase-refused : (t : List ℕ) → (phraseRefusal vocab words start len ≡ 0 → ⊥) → phraseAnswer vocab t words start len ≡ refused (phraseRefusal vocab words start len)
+  pub phrase-refused : (t documents : List ℕ) → (phraseRefusal vocab words start len ≡ 0 → ⊥) → phraseAnswer vocab t documents words start len ≡ refused (phraseRefusal vocab words start len)
   unfolding phraseAnswer phraseRefusal phraseCases rankAskedCase
-  phrase-refused t h = refused-number (ltb maxPhrase len || ltb (length words) (start + len)) (not (ranksBelow vocab (phraseIn words start len))) (length (places t (phraseIn words start len))) h
+  phrase-refused t documents h = refused-number (ltb maxPhrase len || ltb (length words) (start + len)) (not (ranksBelow vocab (phraseIn words start len))) (length (placesIn documents t (phraseIn words start len))) h
 
 -- a question is answered by its kind
-module _ (vocab : ℕ) (t words : List ℕ) (q : Question) where
-  pub kind-1 : q .kind ≡ 1 → questionAnswer vocab t words q ≡ wordAtAnswer t (q .p)
+module _ (vocab : ℕ) (t documents words : List ℕ) (q : Question) where
+  pub kind-1 : q .kind ≡ 1 → questionAnswer vocab t documents words q ≡ wordAtAnswer t (q .p)
   unfolding questionAnswer
   kind-1 e = rw e
 
-  pub kind-2 : q .kind ≡ 2 → questionAnswer vocab t words q ≡ occurrencesAnswer vocab t (q .w) (q .p)
+  pub kind-2 : q .kind ≡ 2 → questionAnswer vocab t documents words q ≡ occurrencesAnswer vocab t (q .w) (q .p)
   unfolding questionAnswer
   kind-2 e = rw e
 
-  pub kind-3 : q .kind ≡ 3 → questionAnswer vocab t words q ≡ placeAnswer vocab t (q .w) (q .p)
+  pub kind-3 : q .kind ≡ 3 → questionAnswer vocab t documents words q ≡ placeAnswer vocab t (q .w) (q .p)
   unfolding questionAnswer
   kind-3 e = rw e
 
-  pub kind-4 : q .kind ≡ 4 → questionAnswer vocab t words q ≡ neighboursAnswer vocab t (q .w) (q .v) (q .d)
+  pub kind-4 : q .kind ≡ 4 → questionAnswer vocab t documents words q ≡ neighboursAnswer vocab t documents (q .w) (q .v) (q .d)
   unfolding questionAnswer
   kind-4 e = rw e
 
-  pub kind-5 : q .kind ≡ 5 → questionAnswer vocab t words q ≡ phraseAnswer vocab t words (q .start) (q .length)
+  pub kind-5 : q .kind ≡ 5 → questionAnswer vocab t documents words q ≡ phraseAnswer vocab t documents words (q .start) (q .length)
   unfolding questionAnswer
   kind-5 e = rw e
 
-  pub kind-none : (q .kind ≡ 1 → ⊥) → (q .kind ≡ 2 → ⊥) → (q .kind ≡ 3 → ⊥) → (q .kind ≡ 4 → ⊥) → (q .kind ≡ 5 → ⊥) → questionAnswer vocab t words q ≡ refused refusalKind
+  pub kind-none : (q .kind ≡ 1 → ⊥) → (q .kind ≡ 2 → ⊥) → (q .kind ≡ 3 → ⊥) → (q .kind ≡ 4 → ⊥) → (q .kind ≡ 5 → ⊥) → questionAnswer vocab t documents words q ≡ refused refusalKind
   unfolding questionAnswer
   kind-none a b c d e = rw (ne-eqb (q .kind) 1 a, ne-eqb (q .kind) 2 b, ne-eqb (q .kind) 3 c, ne-eqb (q .kind) 4 d, ne-eqb (q .kind) 5 e)
 
@@ -239,13 +238,9 @@ module _ (s : ℕ) (shape : Shape) (a : Arrays) where
   unfolding checkAnswer indexCases vocabularyCase blocksCase
   check-passed e = answers (indexCases s shape a) (accepted 0) (none-holds (indexCases s shape a) (accepted 0) (refl, (refl, (refl, tt))) (eq-eqb (checkAnswer s shape a .refusal) 0 e))
 
-  index-refused : (checkAnswer s shape a .refusal ≡ 0 → ⊥) → (other : Answer) → firstOf (indexCases s shape a) other ≡ checkAnswer s shape a
+  pub index-refused : (checkAnswer s shape a .refusal ≡ 0 → ⊥) → (other : Answer) → firstOf (indexCases s shape a) other ≡ checkAnswer s shape a
   unfolding checkAnswer
   index-refused h other = first-decided (indexCases s shape a) (accepted 0) other refl (ne-eqb (checkAnswer s shape a .refusal) 0 h)
-
-  pub ask-refused : (checkAnswer s shape a .refusal ≡ 0 → ⊥) → (words : List ℕ) (q : Question) → askAnswer s shape a words q ≡ checkAnswer s shape a
-  unfolding askAnswer
-  ask-refused h words q = index-refused h _
 
   pub passage-index : (checkAnswer s shape a .refusal ≡ 0 → ⊥) → (p : ℕ) (z : List ℕ) → passageAnswer s shape a p z ≡ checkAnswer s shape a
   unfolding passageAnswer

@@ -10,9 +10,10 @@ use Rattle.base.specs.Answers.{accepted, refused}
 use Rattle.base.specs.Texts.{ranksBelow}
 use Rattle.index.specs.Arrays.{textIn}
 use Rattle.phrases.proofs.NoWords.{none-count}
+use Rattle.documents.proofs.Exact.{documents-are-exact}
 use Rattle.questions.specs.Answering.{phraseIn, phraseAnswer}
 use Rattle.questions.specs.NoWords.{NoWordsAreExact}
-use Rattle.questions.proofs.Read.{ask-passed, passage-accepted, passage-filled}
+use Rattle.questions.proofs.Read.{ask-in-passed, passage-accepted, passage-filled}
 use Rattle.questions.proofs.Answered.{phrase-none, phrase-past, phrase-counted, phrase-refused, part-length, kind-5}
 
 -- a phrase of no words has no rank outside
@@ -21,28 +22,29 @@ unfolding phraseIn ranksBelow
 none-below vocab words start len e = rw e
 
 -- the answer of kind 5: of a part that starts among the lent words or at their end, and of one that starts past it
-module _ (vocab : ℕ) (t words : List ℕ) (start len : ℕ) (none : len ≡ 0) where
-  pub no-words-counted : start ≤ length words → phraseAnswer vocab t words start len ≡ accepted (suc (length t))
+module _ (vocab : ℕ) (t documents words : List ℕ) (start len : ℕ) (none : len ≡ 0) where
+  pub no-words-counted : start ≤ length words → phraseAnswer vocab t documents words start len ≡ accepted (suc (length t))
   no-words-counted h =
       let inside : start + len ≤ length words = omega arith in
-      phrase-counted vocab words start len t (phrase-none vocab words start len (omega arith) inside (none-below vocab words start len none))
-      ∙ ap accepted (none-count t (phraseIn words start len) (part-length vocab words start len inside ∙ none))
+      let none-there : length (phraseIn words start len) ≡ 0 = part-length vocab words start len inside ∙ none in
+      phrase-counted vocab words start len t documents (phrase-none vocab words start len (omega arith) inside (none-below vocab words start len none))
+      ∙ ap accepted (ap length (documents-are-exact documents t (phraseIn words start len) .none none-there) ∙ none-count t (phraseIn words start len) none-there)
 
-  pub no-words-past : length words < start → phraseAnswer vocab t words start len ≡ refused refusalPhrase
+  pub no-words-past : length words < start → phraseAnswer vocab t documents words start len ≡ refused refusalPhrase
   no-words-past h =
       let r = phrase-past vocab words start len (omega arith) in
-      phrase-refused vocab words start len t (λ z. eight (sym r ∙ z)) ∙ ap refused r
+      phrase-refused vocab words start len t documents (λ z. eight (sym r ∙ z)) ∙ ap refused r
     where
       eight : refusalPhrase ≡ 0 → ⊥
       eight e = omega arith
 
 pub no-words-are-exact : NoWordsAreExact
-no-words-are-exact s shape a passed = record {
+no-words-are-exact s shape a documents passed ok = record {
   counted = λ words q five none h.
-      ask-passed s shape a words q passed ∙ kind-5 (shape .vocabulary) (textIn s a) words q five
-      ∙ no-words-counted (shape .vocabulary) (textIn s a) words (q .start) (q .length) none h;
+      ask-in-passed s shape a documents words q passed ok ∙ kind-5 (shape .vocabulary) (textIn s a) documents words q five
+      ∙ no-words-counted (shape .vocabulary) (textIn s a) documents words (q .start) (q .length) none h;
   past = λ words q five none h.
-      ask-passed s shape a words q passed ∙ kind-5 (shape .vocabulary) (textIn s a) words q five
-      ∙ no-words-past (shape .vocabulary) (textIn s a) words (q .start) (q .length) none h;
+      ask-in-passed s shape a documents words q passed ok ∙ kind-5 (shape .vocabulary) (textIn s a) documents words q five
+      ∙ no-words-past (shape .vocabulary) (textIn s a) documents words (q .start) (q .length) none h;
   passage = λ p h. (passage-accepted s shape a passed p [] (omega arith), passage-filled s shape a passed p [] (omega arith));
 }

@@ -10,21 +10,20 @@ use Rattle.base.specs.Answers.{firstOf}
 use Rattle.base.specs.Texts.{outside, ranksBelow}
 use Rattle.base.proofs.Tests.{inside-range}
 use Rattle.index.specs.Arrays.{textIn}
-use Rattle.index.specs.Entries.{indexCases}
-use Rattle.phrases.proofs.Mirror.{mirror}
-use Rattle.questions.specs.Answering.{askAnswer, questionAnswer, neighboursAnswer, rankAskedCase}
+use Rattle.documents.proofs.Inside.{mirror-in}
+use Rattle.questions.specs.Answering.{readingCases, askAnswerIn, questionAnswer, neighboursAnswer, rankAskedCase}
 use Rattle.questions.specs.Laws.{FieldsUnused, MirrorAsked}
 use Rattle.questions.proofs.Answered.{kind-none}
 
 pub fields-unused : FieldsUnused
-unfolding askAnswer questionAnswer
-fields-unused s shape a words q = record {
+unfolding askAnswerIn questionAnswer
+fields-unused s shape a documents words q = record {
   kind1 = λ e. rw e;
   kind2 = λ e. rw e;
   kind3 = λ e. rw e;
   kind4 = λ e. rw e;
   kind5 = λ e. rw e;
-  otherKind = λ o. ap (firstOf (indexCases s shape a)) (kind-none (shape .vocabulary) (textIn s a) words q (none o 1 (omega arith) (omega arith)) (none o 2 (omega arith) (omega arith)) (none o 3 (omega arith) (omega arith)) (none o 4 (omega arith) (omega arith)) (none o 5 (omega arith) (omega arith)));
+  otherKind = λ o. ap (firstOf (readingCases s shape a documents)) (kind-none (shape .vocabulary) (textIn s a) documents words q (none o 1 (omega arith) (omega arith)) (none o 2 (omega arith) (omega arith)) (none o 3 (omega arith) (omega arith)) (none o 4 (omega arith) (omega arith)) (none o 5 (omega arith) (omega arith)));
   lentWords = λ other h. rw (ne-eqb (q .kind) 5 h);
 }
   where
@@ -46,5 +45,5 @@ abs-negated (pos (suc n)) = refl
 abs-negated (negsuc n) = refl
 
 pub mirror-asked : MirrorAsked
-unfolding askAnswer questionAnswer neighboursAnswer rankAskedCase ranksBelow
-mirror-asked s shape a words w v d = rw (mirror _ w v d, abs-negated d, and-turned (ltb w (shape .vocabulary)) (ltb v (shape .vocabulary)))
+unfolding askAnswerIn questionAnswer neighboursAnswer rankAskedCase ranksBelow
+mirror-asked s shape a documents words w v d = rw (mirror-in documents _ w v d, abs-negated d, and-turned (ltb w (shape .vocabulary)) (ltb v (shape .vocabulary)))

@@ -1,7 +1,7 @@
 -- The answer to a question about the text of an index.
 use Prim.Native.Nat.{ℕ, _+_}
 use mathlib.Core.Bool.{cond, not, _||_}
-use mathlib.Core.List.{List, [], _∷_}
+use mathlib.Core.List.{List, [], _∷_, _++_}
 use lib.Dec.{eqb, leb, ltb}
 use lib.IntN.{ℤ, natAbs}
 use lib.ListN.{length, take, drop}
@@ -13,9 +13,16 @@ use Rattle.index.specs.declared.Shape.{Shape}
 use Rattle.index.specs.Arrays.{Arrays, textIn}
 use Rattle.index.specs.Entries.{indexCases}
 use Rattle.words.specs.Words.{rankAt, occurrencesBelow, frequency, nthPlace}
-use Rattle.phrases.specs.Phrases.{places}
-use Rattle.phrases.specs.Neighbours.{neighbours}
+use Rattle.documents.specs.Documents.{documentsCase, oneStart, placesIn, neighboursIn}
 use Rattle.questions.specs.declared.Question.{Question}
+
+-- refusals 1, 3, 6 and 19, which every call that brings an index and document starts tries
+unfoldable pub readingCases : ℕ → Shape → Arrays → List ℕ → List Case
+readingCases s shape a documents = indexCases s shape a ++ documentsCase (length (textIn s a)) documents ∷ []
+
+-- the answer of these tests: the first refusal, and 0 accepted where there is none
+unfoldable pub checkAnswerIn : ℕ → Shape → Arrays → List ℕ → Answer
+checkAnswerIn s shape a documents = firstOf (readingCases s shape a documents) (accepted 0)
 
 -- refusal 9: a rank asked about is not below V
 unfoldable pub rankAskedCase : ℕ → List ℕ → Case
@@ -50,27 +57,31 @@ unfoldable pub placeAnswer : ℕ → List ℕ → ℕ → ℕ → Answer
 placeAnswer vocab t w p =
     firstOf (rankAskedCase vocab (w ∷ []) ∷ (outside 1 (frequency t w) p ⇒ refused refusalPlace) ∷ []) (accepted (nthPlace t w p))
 
--- kind 4: how often w has v at the offset d, d from -16 to 16
-unfoldable pub neighboursAnswer : ℕ → List ℕ → ℕ → ℕ → ℤ → Answer
-neighboursAnswer vocab t w v d =
-    firstOf (rankAskedCase vocab (w ∷ v ∷ []) ∷ (ltb maxOffset (natAbs d) ⇒ refused refusalOffset) ∷ []) (accepted (neighbours t w v d))
+-- kind 4: how often w has v at the offset d, d from -16 to 16, in one document
+unfoldable pub neighboursAnswer : ℕ → List ℕ → List ℕ → ℕ → ℕ → ℤ → Answer
+neighboursAnswer vocab t documents w v d =
+    firstOf (rankAskedCase vocab (w ∷ v ∷ []) ∷ (ltb maxOffset (natAbs d) ⇒ refused refusalOffset) ∷ []) (accepted (neighboursIn documents t w v d))
 
--- kind 5: how often the phrase stands
-unfoldable pub phraseAnswer : ℕ → List ℕ → List ℕ → ℕ → ℕ → Answer
-phraseAnswer vocab t words start len =
-    firstOf (phraseCases vocab words start len) (accepted (length (places t (phraseIn words start len))))
+-- kind 5: how often the phrase stands inside one document
+unfoldable pub phraseAnswer : ℕ → List ℕ → List ℕ → List ℕ → ℕ → ℕ → Answer
+phraseAnswer vocab t documents words start len =
+    firstOf (phraseCases vocab words start len) (accepted (length (placesIn documents t (phraseIn words start len))))
 
--- the answer to a question about the text t of a vocabulary: refusal 7 for a kind outside 1 to 5
-unfoldable pub questionAnswer : ℕ → List ℕ → List ℕ → Question → Answer
-questionAnswer vocab t words q =
+-- the answer to a question about the text t of a vocabulary and its documents: refusal 7 for a kind outside 1 to 5
+unfoldable pub questionAnswer : ℕ → List ℕ → List ℕ → List ℕ → Question → Answer
+questionAnswer vocab t documents words q =
     cond (eqb (q .kind) 1) (wordAtAnswer t (q .p))
     (cond (eqb (q .kind) 2) (occurrencesAnswer vocab t (q .w) (q .p))
     (cond (eqb (q .kind) 3) (placeAnswer vocab t (q .w) (q .p))
-    (cond (eqb (q .kind) 4) (neighboursAnswer vocab t (q .w) (q .v) (q .d))
-    (cond (eqb (q .kind) 5) (phraseAnswer vocab t words (q .start) (q .length))
+    (cond (eqb (q .kind) 4) (neighboursAnswer vocab t documents (q .w) (q .v) (q .d))
+    (cond (eqb (q .kind) 5) (phraseAnswer vocab t documents words (q .start) (q .length))
     (refused refusalKind)))))
 
--- asking one question of an index
+-- asking one question of an index with document starts
+unfoldable pub askAnswerIn : ℕ → Shape → Arrays → List ℕ → List ℕ → Question → Answer
+askAnswerIn s shape a documents words q =
+    firstOf (readingCases s shape a documents) (questionAnswer (shape .vocabulary) (textIn s a) documents words q)
+
+-- asking one question of an index without document starts: its text is one document
 unfoldable pub askAnswer : ℕ → Shape → Arrays → List ℕ → Question → Answer
-askAnswer s shape a words q =
-    firstOf (indexCases s shape a) (questionAnswer (shape .vocabulary) (textIn s a) words q)
+askAnswer s shape a words q = askAnswerIn s shape a (oneStart (length (textIn s a))) words q

@@ -12,28 +12,28 @@ use Rattle.base.specs.Texts.{outside}
 use Rattle.dense.specs.Code.{Closing}
 use Rattle.index.specs.declared.Shape.{Shape}
 use Rattle.index.specs.Arrays.{Arrays, arrays, indexOf}
-use Rattle.index.specs.Entries.{isShorter, buildAnswer, buildExit, indexCases, checkAnswer}
+use Rattle.index.specs.Entries.{isShorter, buildAnswer, buildExit, checkAnswer}
 use Rattle.index.specs.Exact.{WithinLimits, IsText, HasIndex}
 use Rattle.questions.specs.declared.Question.{Question}
 use Rattle.questions.specs.Makers.{asksWordAt, asksOccurrencesBelow, asksPlaceOf, asksNeighbours, asksPhrase}
-use Rattle.questions.specs.Answering.{askAnswer}
+use Rattle.questions.specs.Answering.{readingCases, askAnswerIn, askAnswer}
 use Rattle.questions.specs.Passages.{passageAnswer, passageExit}
 
--- an answer never depends on the fields that the kind does not use: it is that of the maker's question
-pub record UnusedFields (s : ℕ) (shape : Shape) (a : Arrays) (words : List ℕ) (q : Question) : Type 0 where
-  pub kind1 : q .kind ≡ 1 → askAnswer s shape a words q ≡ askAnswer s shape a words (asksWordAt (q .p))
-  pub kind2 : q .kind ≡ 2 → askAnswer s shape a words q ≡ askAnswer s shape a words (asksOccurrencesBelow (q .w) (q .p))
-  pub kind3 : q .kind ≡ 3 → askAnswer s shape a words q ≡ askAnswer s shape a words (asksPlaceOf (q .w) (q .p))
-  pub kind4 : q .kind ≡ 4 → askAnswer s shape a words q ≡ askAnswer s shape a words (asksNeighbours (q .w) (q .v) (q .d))
-  pub kind5 : q .kind ≡ 5 → askAnswer s shape a words q ≡ askAnswer s shape a words (asksPhrase (q .start) (q .length))
-  -- of a kind outside 1 to 5 it is refusal 7, after those of the index, whatever the fields
-  pub otherKind : outside 1 5 (q .kind) ≡ true → askAnswer s shape a words q ≡ firstOf (indexCases s shape a) (refused refusalKind)
+-- an answer never depends on the fields that the kind does not use: it is that of the maker's question; with any starts
+pub record UnusedFields (s : ℕ) (shape : Shape) (a : Arrays) (documents words : List ℕ) (q : Question) : Type 0 where
+  pub kind1 : q .kind ≡ 1 → askAnswerIn s shape a documents words q ≡ askAnswerIn s shape a documents words (asksWordAt (q .p))
+  pub kind2 : q .kind ≡ 2 → askAnswerIn s shape a documents words q ≡ askAnswerIn s shape a documents words (asksOccurrencesBelow (q .w) (q .p))
+  pub kind3 : q .kind ≡ 3 → askAnswerIn s shape a documents words q ≡ askAnswerIn s shape a documents words (asksPlaceOf (q .w) (q .p))
+  pub kind4 : q .kind ≡ 4 → askAnswerIn s shape a documents words q ≡ askAnswerIn s shape a documents words (asksNeighbours (q .w) (q .v) (q .d))
+  pub kind5 : q .kind ≡ 5 → askAnswerIn s shape a documents words q ≡ askAnswerIn s shape a documents words (asksPhrase (q .start) (q .length))
+  -- of a kind outside 1 to 5 it is refusal 7, after those of the index and of the starts, whatever the fields
+  pub otherKind : outside 1 5 (q .kind) ≡ true → askAnswerIn s shape a documents words q ≡ firstOf (readingCases s shape a documents) (refused refusalKind)
   -- and only kind 5 reads the lent words
-  pub lentWords : (other : List ℕ) → (q .kind ≡ 5 → ⊥) → askAnswer s shape a words q ≡ askAnswer s shape a other q
+  pub lentWords : (other : List ℕ) → (q .kind ≡ 5 → ⊥) → askAnswerIn s shape a documents words q ≡ askAnswerIn s shape a documents other q
 
 -- Statement: of every question.
 abbrev pub FieldsUnused : Type 0
-FieldsUnused = (s : ℕ) (shape : Shape) (a : Arrays) (words : List ℕ) (q : Question) → UnusedFields s shape a words q
+FieldsUnused = (s : ℕ) (shape : Shape) (a : Arrays) (documents words : List ℕ) (q : Question) → UnusedFields s shape a documents words q
 
 -- by the calls, too, reading an index gives its text back: word by word, for any lent words, and as one passage
 pub record ReadByCalls (s : ℕ) (shape : Shape) (t : List ℕ) (a : Arrays) : Type 0 where
@@ -73,8 +73,8 @@ pub record BuiltReadByCalls (s : ℕ) (shape : Shape) (t : List ℕ) (z : Arrays
 abbrev pub BuildReadByCalls : Type 0
 BuildReadByCalls = (s : ℕ) (shape : Shape) (t : List ℕ) (z : Arrays) → Closing s → BuiltReadByCalls s shape t z
 
--- Statement: the mirror law, of the calls: the same answer, refusals too
+-- Statement: the mirror law, of the calls: the same answer, refusals too, with any starts
 abbrev pub MirrorAsked : Type 0
 MirrorAsked =
-    (s : ℕ) (shape : Shape) (a : Arrays) (words : List ℕ) (w v : ℕ) (d : ℤ) →
-    askAnswer s shape a words (asksNeighbours w v d) ≡ askAnswer s shape a words (asksNeighbours v w (negℤ d))
+    (s : ℕ) (shape : Shape) (a : Arrays) (documents words : List ℕ) (w v : ℕ) (d : ℤ) →
+    askAnswerIn s shape a documents words (asksNeighbours w v d) ≡ askAnswerIn s shape a documents words (asksNeighbours v w (negℤ d))

@@ -12,12 +12,13 @@ use Rattle.tree.specs.Walks.{textOf}
 use Rattle.index.specs.Arrays.{bytesOf, lengthsOf, indexOf, textIn, sameArrays, passes}
 use Rattle.index.specs.Entries.{indexCases}
 use Rattle.phrases.specs.Phrases.{agrees, stands, places}
-use Rattle.phrases.specs.Neighbours.{standsAt, neighbourAt, neighbours}
-use Rattle.questions.specs.Answering.{rankAskedCase, phraseIn, phraseCases, occurrencesAnswer, placeAnswer, neighboursAnswer, phraseAnswer, questionAnswer, askAnswer}
+use Rattle.phrases.specs.Neighbours.{standsAt, neighbourAt}
+use Rattle.documents.specs.Documents.{isAscending, areStarts, documentsCase, documentOf, sameDocument, inOneDocument, standsIn, placesIn, neighbourIn, neighboursIn}
+use Rattle.questions.specs.Answering.{readingCases, rankAskedCase, phraseIn, phraseCases, occurrencesAnswer, placeAnswer, neighboursAnswer, phraseAnswer, questionAnswer, askAnswerIn, askAnswer}
 use Rattle.samples.specs.Group.{sampleIndex, SampleGroup}
 
 pub sample-group : SampleGroup
-unfolding flatten firstOf outside ranksBelow isText vocabularyCase code stream codewords streamText row superblockRow blockRow superblockRows blockRows blocksCase path reach nodeBytes nodes textOf bytesOf lengthsOf indexOf textIn sameArrays passes indexCases agrees stands places standsAt neighbourAt neighbours rankAskedCase phraseIn phraseCases occurrencesAnswer placeAnswer neighboursAnswer phraseAnswer questionAnswer askAnswer sampleIndex
+unfolding flatten firstOf outside ranksBelow isText vocabularyCase code stream codewords streamText row superblockRow blockRow superblockRows blockRows blocksCase path reach nodeBytes nodes textOf bytesOf lengthsOf indexOf textIn sameArrays passes indexCases agrees stands places standsAt neighbourAt isAscending areStarts documentsCase documentOf sameDocument inOneDocument standsIn placesIn neighbourIn neighboursIn readingCases rankAskedCase phraseIn phraseCases occurrencesAnswer placeAnswer neighboursAnswer phraseAnswer questionAnswer askAnswerIn askAnswer sampleIndex
 sample-group =
     record {
       codes = published-codes;

@@ -1,3 +1,4 @@
 pub mod Values
 pub mod Tested
 pub mod Singles
+pub mod Whole

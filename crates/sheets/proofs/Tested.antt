@@ -5,24 +5,24 @@ use mathlib.Core.Bool.{true, false}
 use mathlib.Core.List.{List, [], _∷_, _++_, map, map-append}
 use native.Mathlib.Numerals.{add-one}
 use native.Mathlib.Omega.{arith}
-use borrow.Author.Tests.{lt-ltb, le-ltb, ltb-false, eq-eqb, ne-eqb}
+use borrow.Author.Tests.{lt-ltb, le-ltb, ltb-false, eq-eqb, not-false}
 use lib.Dec.{ltb}
 use lib.ListN.{length, getD, set, take, length-map}
 use lib.Seq.{take-suc, take-all, length-take-le}
 use Rattle.base.specs.declared.Answer.{Answer}
 use Rattle.base.specs.Refusals.{refusalPage}
 use Rattle.base.specs.Answers.{accepted, refused, isAccepted, firstOf, NoneHolds, front, written}
-use Rattle.base.proofs.Answers.{first-here, first-append, first-decided, answers, none-holds, none-append, filled-not, filled-front}
+use Rattle.base.proofs.Answers.{first-here, first-append, answers, none-holds, none-append, filled-not, filled-front}
 use Rattle.base.proofs.Fronts.{written-sets, front-is, front-none, front-more, length-front}
 use Rattle.dense.specs.Code.{vocabularyCase}
 use Rattle.directory.specs.Counters.{blocksCase}
 use Rattle.index.specs.declared.Shape.{Shape}
 use Rattle.index.specs.Arrays.{Arrays, textIn}
 use Rattle.index.specs.Entries.{indexCases, checkAnswer}
+use Rattle.documents.specs.Documents.{areStarts, documentsCase}
 use Rattle.questions.specs.declared.Question.{Question}
-use Rattle.questions.specs.Answering.{questionAnswer}
-use Rattle.questions.proofs.Answered.{check-passed}
-use Rattle.questions.proofs.Read.{index-tests}
+use Rattle.questions.specs.Answering.{readingCases, checkAnswerIn, questionAnswer}
+use Rattle.questions.proofs.Checks.{reading-tests, reading-passed, reading-index, reading-refused}
 use Rattle.sheets.specs.Sheets.{pairOf, pairsOf, roomCase, sheetCases, sheetAnswer, sheetExit}
 
 -- a slice that is too short, and one that is not
@@ -34,35 +34,42 @@ enough-room : (asked room : ℕ) → 2 * asked ≤ room → NoneHolds (roomCase 
 unfolding roomCase
 enough-room asked room l = (le-ltb room (2 * asked) l, tt)
 
-module _ (s : ℕ) (shape : Shape) (a : Arrays) (asked room : ℕ) where
-  -- arrays that the check refuses
-  pub sheet-index : (checkAnswer s shape a .refusal ≡ 0 → ⊥) → sheetAnswer s shape a asked room ≡ checkAnswer s shape a
-  unfolding sheetAnswer sheetCases checkAnswer
-  sheet-index h =
-      first-append (indexCases s shape a) (roomCase asked room ∷ []) (accepted (2 * asked))
-      ∙ first-decided (indexCases s shape a) (accepted 0) (firstOf (roomCase asked room ∷ []) (accepted (2 * asked))) refl (ne-eqb (checkAnswer s shape a .refusal) 0 h)
+module _ (s : ℕ) (shape : Shape) (a : Arrays) (documents : List ℕ) (asked room : ℕ) where
+  -- arrays that the check refuses, and document starts that break a rule, whatever the room
+  pub sheet-checked : (checkAnswerIn s shape a documents .refusal ≡ 0 → ⊥) → sheetAnswer s shape a documents asked room ≡ checkAnswerIn s shape a documents
+  unfolding sheetAnswer sheetCases
+  sheet-checked h = first-append (readingCases s shape a documents) (roomCase asked room ∷ []) (accepted (2 * asked)) ∙ reading-refused s shape a documents h _
+
+  -- the first of these, whatever the starts
+  pub sheet-index : (checkAnswer s shape a .refusal ≡ 0 → ⊥) → sheetAnswer s shape a documents asked room ≡ checkAnswer s shape a
+  unfolding sheetAnswer sheetCases
+  sheet-index h = first-append (readingCases s shape a documents) (roomCase asked room ∷ []) (accepted (2 * asked)) ∙ reading-index s shape a documents h _
 
   -- a sheet that has too little room
-  pub sheet-short : checkAnswer s shape a .refusal ≡ 0 → room < 2 * asked → sheetAnswer s shape a asked room ≡ refused refusalPage
+  pub sheet-short : checkAnswer s shape a ≡ accepted 0 → areStarts (length (textIn s a)) documents ≡ true → room < 2 * asked → sheetAnswer s shape a documents asked room ≡ refused refusalPage
   unfolding sheetAnswer sheetCases
-  sheet-short e l =
-      first-append (indexCases s shape a) (roomCase asked room ∷ []) (accepted (2 * asked))
-      ∙ answers (indexCases s shape a) (firstOf (roomCase asked room ∷ []) (accepted (2 * asked))) (index-tests s shape a (check-passed s shape a e))
+  sheet-short e h l =
+      first-append (readingCases s shape a documents) (roomCase asked room ∷ []) (accepted (2 * asked))
+      ∙ reading-passed s shape a documents e h _
       ∙ short-room asked room (accepted (2 * asked)) l
 
   -- and one that has enough
-  pub sheet-accepted : checkAnswer s shape a .refusal ≡ 0 → 2 * asked ≤ room → sheetAnswer s shape a asked room ≡ accepted (2 * asked)
+  pub sheet-accepted : checkAnswer s shape a ≡ accepted 0 → areStarts (length (textIn s a)) documents ≡ true → 2 * asked ≤ room → sheetAnswer s shape a documents asked room ≡ accepted (2 * asked)
   unfolding sheetAnswer sheetCases
-  sheet-accepted e l =
-      answers (sheetCases s shape a asked room) (accepted (2 * asked))
-      (none-append (indexCases s shape a) (roomCase asked room ∷ []) (index-tests s shape a (check-passed s shape a e)) (enough-room asked room l))
+  sheet-accepted e h l =
+      answers (sheetCases s shape a documents asked room) (accepted (2 * asked))
+      (none-append (readingCases s shape a documents) (roomCase asked room ∷ []) (reading-tests s shape a documents e h) (enough-room asked room l))
 
-  -- an accepted sheet has passed the check, and has room
-  pub sheet-clear : sheetAnswer s shape a asked room .refusal ≡ 0 → (checkAnswer s shape a ≡ accepted 0) × (2 * asked ≤ room)
-  unfolding sheetAnswer sheetCases checkAnswer indexCases vocabularyCase blocksCase roomCase
+  -- an accepted sheet has passed the check, its starts keep the rules, and it has room
+  pub sheet-clear : sheetAnswer s shape a documents asked room .refusal ≡ 0
+      → (checkAnswer s shape a ≡ accepted 0) × (areStarts (length (textIn s a)) documents ≡ true) × (2 * asked ≤ room)
+  unfolding sheetAnswer sheetCases readingCases checkAnswer indexCases vocabularyCase blocksCase documentsCase roomCase
   sheet-clear e =
-      let n : NoneHolds (sheetCases s shape a asked room) = none-holds (sheetCases s shape a asked room) (accepted (2 * asked)) (refl, (refl, (refl, (refl, tt)))) (eq-eqb (sheetAnswer s shape a asked room .refusal) 0 e) in
-      (answers (indexCases s shape a) (accepted 0) (n .0, (n .1 .0, (n .1 .1 .0, tt))), ltb-false room (2 * asked) (n .1 .1 .1 .0))
+      let n : NoneHolds (sheetCases s shape a documents asked room) = none-holds (sheetCases s shape a documents asked room) (accepted (2 * asked)) (refl, (refl, (refl, (refl, (refl, tt))))) (eq-eqb (sheetAnswer s shape a documents asked room .refusal) 0 e) in (
+        answers (indexCases s shape a) (accepted 0) (n .0, (n .1 .0, (n .1 .1 .0, tt))),
+        not-false (areStarts (length (textIn s a)) documents) (n .1 .1 .1 .0),
+        ltb-false room (2 * asked) (n .1 .1 .1 .1 .0),
+      )
 
 -- the two numbers of a pair, stored one after the other
 pub pair-written : (r : Answer) (z : List ℕ) (at : ℕ) → at + 1 < length z → set (set z at (r .refusal)) (at + 1) (r .value) ≡ written (pairOf r) at z
@@ -105,15 +112,15 @@ module _ (f : Question → Answer) (qs : List Question) (z : List ℕ) where
   pub after-length : 2 * length qs ≤ length z → (i : ℕ) → i ≤ length qs → length (after i) ≡ length z
   after-length room i h = length-front (pairsOf (map f (take i qs))) z (omega (arith, length-first i h))
 
-module _ (s : ℕ) (shape : Shape) (a : Arrays) (words : List ℕ) (qs : List Question) (z : List ℕ) where
+module _ (s : ℕ) (shape : Shape) (a : Arrays) (documents words : List ℕ) (qs : List Question) (z : List ℕ) where
   -- what the slice holds after an accepted sheet, and after one that is turned down
-  pub sheet-filled : isAccepted (sheetAnswer s shape a (length qs) (length z)) ≡ true
-      → sheetExit s shape a words qs z ≡ front (pairsOf (map (questionAnswer (shape .vocabulary) (textIn s a) words) qs)) z
+  pub sheet-filled : isAccepted (sheetAnswer s shape a documents (length qs) (length z)) ≡ true
+      → sheetExit s shape a documents words qs z ≡ front (pairsOf (map (questionAnswer (shape .vocabulary) (textIn s a) documents words) qs)) z
   unfolding sheetExit
   sheet-filled e =
-      filled-front (sheetAnswer s shape a (length qs) (length z)) (pairsOf (map (questionAnswer (shape .vocabulary) (textIn s a) words) qs)) z e
-      ∙ sym (front-is (pairsOf (map (questionAnswer (shape .vocabulary) (textIn s a) words) qs)) z)
+      filled-front (sheetAnswer s shape a documents (length qs) (length z)) (pairsOf (map (questionAnswer (shape .vocabulary) (textIn s a) documents words) qs)) z e
+      ∙ sym (front-is (pairsOf (map (questionAnswer (shape .vocabulary) (textIn s a) documents words) qs)) z)
 
-  pub sheet-untouched : isAccepted (sheetAnswer s shape a (length qs) (length z)) ≡ false → sheetExit s shape a words qs z ≡ z
+  pub sheet-untouched : isAccepted (sheetAnswer s shape a documents (length qs) (length z)) ≡ false → sheetExit s shape a documents words qs z ≡ z
   unfolding sheetExit
-  sheet-untouched e = filled-not (sheetAnswer s shape a (length qs) (length z)) (pairsOf (map (questionAnswer (shape .vocabulary) (textIn s a) words) qs)) z e
+  sheet-untouched e = filled-not (sheetAnswer s shape a documents (length qs) (length z)) (pairsOf (map (questionAnswer (shape .vocabulary) (textIn s a) documents words) qs)) z e

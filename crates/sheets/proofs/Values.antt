@@ -1,7 +1,7 @@
 -- The answers to questions, whatever the question: their refusals, and that their values fit the numbers of a pair. Assumes nothing.
 use Prim.Native.Nat.{ℕ, suc, _+_, _-_, _≤_, _<_}
 use mathlib.Core.Path.{_≡_, refl}
-use mathlib.Core.Logic.{_⊎_, inl, inr, ⊎-elim}
+use mathlib.Core.Logic.{inl, inr, ⊎-elim}
 use mathlib.Core.Bool.{Bool, true, false, cond, not, _||_}
 use mathlib.Core.List.{List, [], _∷_}
 use native.Mathlib.Omega.{arith}
@@ -23,8 +23,7 @@ use Rattle.index.specs.declared.Shape.{Shape}
 use Rattle.index.specs.Arrays.{Arrays, textIn, passes, sameArrays, indexOf}
 use Rattle.words.specs.Ready.{Checked}
 use Rattle.words.specs.Words.{rankAt, occurrencesBelow, frequency, nthPlace}
-use Rattle.phrases.specs.Phrases.{stands, places}
-use Rattle.phrases.specs.Neighbours.{neighbourAt, neighbours}
+use Rattle.documents.specs.Documents.{standsIn, placesIn, neighbourIn, neighboursIn}
 use Rattle.questions.specs.declared.Question.{Question}
 use Rattle.questions.specs.Answering.{rankAskedCase, phraseIn, phraseCases, wordAtAnswer, occurrencesAnswer, placeAnswer, neighboursAnswer, phraseAnswer, questionAnswer}
 use Rattle.sheets.specs.Sheets.{HasPair}
@@ -45,7 +44,7 @@ module _ (P : Answer → Type 0) where
   two test other r u answer h k l = either test r (firstOf ((other ⇒ u) ∷ []) answer) h (one other u answer k l)
 
   -- what holds of refusals 7 to 11, and of the values of each kind, holds of the answer to a question
-  module _ (refuses : (number : ℕ) → refusalKind ≤ number → number ≤ refusalPlace → P (refused number)) (t : List ℕ) where
+  module _ (refuses : (number : ℕ) → refusalKind ≤ number → number ≤ refusalPlace → P (refused number)) (t documents : List ℕ) where
     word-at : (p : ℕ) → P (accepted (rankAt t p)) → P (wordAtAnswer t p)
     unfolding wordAtAnswer
     word-at p h = one (leb (length t) p) (refused refusalPlace) (accepted (rankAt t p)) (refuses refusalPlace (omega arith) (omega arith)) h
@@ -62,32 +61,32 @@ module _ (P : Answer → Type 0) where
       unfolding placeAnswer rankAskedCase
       place w p h = two (not (ranksBelow vocab (w ∷ []))) (outside 1 (frequency t w) p) (refused refusalAskedRank) (refused refusalPlace) (accepted (nthPlace t w p)) rank (refuses refusalPlace (omega arith) (omega arith)) h
 
-      near : (w v : ℕ) (d : ℤ) → P (accepted (neighbours t w v d)) → P (neighboursAnswer vocab t w v d)
+      near : (w v : ℕ) (d : ℤ) → P (accepted (neighboursIn documents t w v d)) → P (neighboursAnswer vocab t documents w v d)
       unfolding neighboursAnswer rankAskedCase
-      near w v d h = two (not (ranksBelow vocab (w ∷ v ∷ []))) (ltb maxOffset (natAbs d)) (refused refusalAskedRank) (refused refusalOffset) (accepted (neighbours t w v d)) rank (refuses refusalOffset (omega arith) (omega arith)) h
+      near w v d h = two (not (ranksBelow vocab (w ∷ v ∷ []))) (ltb maxOffset (natAbs d)) (refused refusalAskedRank) (refused refusalOffset) (accepted (neighboursIn documents t w v d)) rank (refuses refusalOffset (omega arith) (omega arith)) h
 
-      phrase : (words : List ℕ) (start len : ℕ) → P (accepted (length (places t (phraseIn words start len)))) → P (phraseAnswer vocab t words start len)
+      phrase : (words : List ℕ) (start len : ℕ) → P (accepted (length (placesIn documents t (phraseIn words start len)))) → P (phraseAnswer vocab t documents words start len)
       unfolding phraseAnswer phraseCases rankAskedCase
       phrase words start len h =
-          two (ltb maxPhrase len || ltb (length words) (start + len)) (not (ranksBelow vocab (phraseIn words start len))) (refused refusalPhrase) (refused refusalAskedRank) (accepted (length (places t (phraseIn words start len))))
+          two (ltb maxPhrase len || ltb (length words) (start + len)) (not (ranksBelow vocab (phraseIn words start len))) (refused refusalPhrase) (refused refusalAskedRank) (accepted (length (placesIn documents t (phraseIn words start len))))
           (refuses refusalPhrase (omega arith) (omega arith)) rank h
 
       pub each-answer : ((p : ℕ) → P (accepted (rankAt t p))) → ((w p : ℕ) → P (accepted (occurrencesBelow t w p))) → ((w p : ℕ) → P (accepted (nthPlace t w p)))
-          → ((w v : ℕ) (d : ℤ) → P (accepted (neighbours t w v d))) → ((ph : List ℕ) → P (accepted (length (places t ph))))
-          → (words : List ℕ) (q : Question) → P (questionAnswer vocab t words q)
+          → ((w v : ℕ) (d : ℤ) → P (accepted (neighboursIn documents t w v d))) → ((ph : List ℕ) → P (accepted (length (placesIn documents t ph))))
+          → (words : List ℕ) (q : Question) → P (questionAnswer vocab t documents words q)
       unfolding questionAnswer
       each-answer a b c d e words q =
           either (eqb (q .kind) 1) (wordAtAnswer t (q .p)) _ (word-at (q .p) (a (q .p)))
           (either (eqb (q .kind) 2) (occurrencesAnswer vocab t (q .w) (q .p)) _ (occurrences (q .w) (q .p) (b (q .w) (q .p)))
           (either (eqb (q .kind) 3) (placeAnswer vocab t (q .w) (q .p)) _ (place (q .w) (q .p) (c (q .w) (q .p)))
-          (either (eqb (q .kind) 4) (neighboursAnswer vocab t (q .w) (q .v) (q .d)) _ (near (q .w) (q .v) (q .d) (d (q .w) (q .v) (q .d)))
-          (either (eqb (q .kind) 5) (phraseAnswer vocab t words (q .start) (q .length)) (refused refusalKind) (phrase words (q .start) (q .length) (e (phraseIn words (q .start) (q .length))))
+          (either (eqb (q .kind) 4) (neighboursAnswer vocab t documents (q .w) (q .v) (q .d)) _ (near (q .w) (q .v) (q .d) (d (q .w) (q .v) (q .d)))
+          (either (eqb (q .kind) 5) (phraseAnswer vocab t documents words (q .start) (q .length)) (refused refusalKind) (phrase words (q .start) (q .length) (e (phraseIn words (q .start) (q .length))))
           (refuses refusalKind (omega arith) (omega arith))))))
 
 -- an answer is accepted, or it is refused with 7 to 11 and has the value 0
-pub has-pair : (vocab : ℕ) (t words : List ℕ) (q : Question) → HasPair (questionAnswer vocab t words q)
-has-pair vocab t words q =
-    each-answer HasPair (λ number h k. inr (h, k, refl)) t vocab (λ p. inl refl) (λ w p. inl refl) (λ w p. inl refl) (λ w v d. inl refl) (λ ph. inl refl) words q
+pub has-pair : (vocab : ℕ) (t documents words : List ℕ) (q : Question) → HasPair (questionAnswer vocab t documents words q)
+has-pair vocab t documents words q =
+    each-answer HasPair (λ number h k. inr (h, k, refl)) t documents vocab (λ p. inl refl) (λ w p. inl refl) (λ w p. inl refl) (λ w v d. inl refl) (λ ph. inl refl) words q
 
 -- what stands in a text is below V, and so is 0, which is read past its end
 rank-most : (vocab : ℕ) (t : List ℕ) (p : ℕ) → Below vocab t → rankAt t p ≤ vocab
@@ -98,15 +97,15 @@ rank-most vocab t p h =
     (below-or-not p (length t))
 
 -- a value is at most one above the number of words that a text may have
-pub value-most : (s : ℕ) (shape : Shape) (a : Arrays) → Checked s shape a → (words : List ℕ) (q : Question) → questionAnswer (shape .vocabulary) (textIn s a) words q .value ≤ suc maxWords
-unfolding passes neighbours places
-value-most s shape a checked words q =
+pub value-most : (s : ℕ) (shape : Shape) (a : Arrays) → Checked s shape a → (documents words : List ℕ) (q : Question) → questionAnswer (shape .vocabulary) (textIn s a) documents words q .value ≤ suc maxWords
+unfolding passes neighboursIn placesIn
+value-most s shape a checked documents words q =
     let text : isText (shape .vocabulary) (textIn s a) ≡ true = and-left (isText (shape .vocabulary) (textIn s a)) (sameArrays (indexOf s shape (textIn s a)) a) (checked .passed) in
     let n : length (textIn s a) ≤ maxWords = text-length (shape .vocabulary) (textIn s a) text in
-    each-answer (λ (r : Answer). r .value ≤ suc maxWords) (λ number h k. omega arith) (textIn s a) (shape .vocabulary)
+    each-answer (λ (r : Answer). r .value ≤ suc maxWords) (λ number h k. omega arith) (textIn s a) documents (shape .vocabulary)
     (λ p. omega (arith, rank-most (shape .vocabulary) (textIn s a) p (text-below (shape .vocabulary) (textIn s a) text), checked .limits .mostWords, small s (checked .closing .least) (checked .closing .most) .all))
     (λ w p. omega (arith, n, count-take-most w p (textIn s a)))
     (λ w p. omega (arith, n, nth-most w (p - 1) (textIn s a)))
-    (λ w v d. omega (arith, n, length-filter-range (neighbourAt (textIn s a) w v d) 0 (length (textIn s a))))
-    (λ ph. omega (arith, n, length-filter-range (stands (textIn s a) ph) 0 (suc (length (textIn s a)))))
+    (λ w v d. omega (arith, n, length-filter-range (neighbourIn documents (textIn s a) w v d) 0 (length (textIn s a))))
+    (λ ph. omega (arith, n, length-filter-range (standsIn documents (textIn s a) ph) 0 (suc (length (textIn s a)))))
     words q

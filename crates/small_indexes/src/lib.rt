@@ -1,11 +1,14 @@
 // Indexes of small texts, held by value, for the programs that try the entries: each is built once
 // and is then checked, asked and listed, whole or damaged.
 ghost use mathlib.Core.Path.{_≡_};
-ghost use Rattle.index.specs.Arrays.{shapeOf};
+ghost use lib.ListN.{length};
+ghost use Rattle.index.specs.Arrays.{shapeOf, textIn};
 ghost use Rattle.index.specs.Entries.{checkAnswer};
-ghost use Rattle.questions.specs.Answering.{askAnswer};
+ghost use Rattle.documents.specs.Documents.{oneStart};
+ghost use Rattle.questions.specs.Answering.{askAnswerIn, askAnswer};
 ghost use Rattle.questions.specs.Passages.{passageAnswer, passageExit};
 ghost use Rattle.listing.specs.Paging.{callOf, pageOf};
+ghost use Rattle.summaries.specs.Summaries.{summaryAnswer, summaryExit};
 ghost use Rattle.small_indexes.specs.Lent.{lent, lentSizes, lentArrays, builtIndex, reshaped, resized};
 use base::Answer;
 use index::Shape;
@@ -178,6 +181,56 @@ impl SmallIndex {
         )
     }
 
+    // Asks a question of the index with document starts.
+    pub fn ask_in_documents(self, documents: &[u32], words: &[u32], question: Question) -> Answer
+        ensures { λ r. ⌜ r ≡ askAnswerIn 128 (self .shape) (lentArrays self) (now (documents .entry)) (now (words .entry)) question ⌝ }
+    {
+        let lengths = self.lengths;
+        let bytes = self.bytes;
+        let superblocks = self.superblocks;
+        let blocks = self.blocks;
+        asking::ask_in_documents(
+            self.shape,
+            front(&lengths, self.sizes.nodes),
+            front_bytes(&bytes, self.sizes.bytes),
+            front(&superblocks, self.sizes.superblocks),
+            front_blocks(&blocks, self.sizes.blocks),
+            documents,
+            words,
+            question,
+        )
+    }
+
+    // Counts a phrase in each document.
+    pub fn summary(
+        self,
+        documents: &[u32],
+        words: &[u32],
+        start: usize,
+        count: usize,
+        counts: &mut [u32],
+    ) -> Answer
+        ensures answered { λ r. ⌜ r ≡ summaryAnswer 128 (self .shape) (lentArrays self) (now (documents .entry)) (now (words .entry)) start count (length (now (counts .entry))) ⌝ }
+        ensures counted { λ _. ⌜ now (counts .exit) ≡ summaryExit 128 (self .shape) (lentArrays self) (now (documents .entry)) (now (words .entry)) start count (now (counts .entry)) ⌝ }
+    {
+        let lengths = self.lengths;
+        let bytes = self.bytes;
+        let superblocks = self.superblocks;
+        let blocks = self.blocks;
+        summaries::summary(
+            self.shape,
+            front(&lengths, self.sizes.nodes),
+            front_bytes(&bytes, self.sizes.bytes),
+            front(&superblocks, self.sizes.superblocks),
+            front_blocks(&blocks, self.sizes.blocks),
+            documents,
+            words,
+            start,
+            count,
+            counts,
+        )
+    }
+
     // Reads a passage of the index.
     pub fn passage(self, place: usize, ranks: &mut [u32]) -> Answer
         ensures answered { λ r. ⌜ r ≡ passageAnswer 128 (self .shape) (lentArrays self) place (now (ranks .entry)) ⌝ }
@@ -207,8 +260,8 @@ impl SmallIndex {
         count: usize,
         lines: &mut [u32],
     ) -> Page
-        ensures returned { λ r. ⌜ r ≡ pageOf (callOf 128 (self .shape) (lentArrays self) (now (words .entry)) start count (now (lines .entry))) state .page ⌝ }
-        ensures written { λ _. ⌜ now (lines .exit) ≡ pageOf (callOf 128 (self .shape) (lentArrays self) (now (words .entry)) start count (now (lines .entry))) state .lines ⌝ }
+        ensures returned { λ r. ⌜ r ≡ pageOf (callOf 128 (self .shape) (lentArrays self) (oneStart (length (textIn 128 (lentArrays self)))) (now (words .entry)) start count (now (lines .entry))) state .page ⌝ }
+        ensures written { λ _. ⌜ now (lines .exit) ≡ pageOf (callOf 128 (self .shape) (lentArrays self) (oneStart (length (textIn 128 (lentArrays self)))) (now (words .entry)) start count (now (lines .entry))) state .lines ⌝ }
     {
         let lengths = self.lengths;
         let bytes = self.bytes;
@@ -220,6 +273,37 @@ impl SmallIndex {
             front_bytes(&bytes, self.sizes.bytes),
             front(&superblocks, self.sizes.superblocks),
             front_blocks(&blocks, self.sizes.blocks),
+            words,
+            start,
+            count,
+            lines,
+        )
+    }
+
+    // Writes the next page of a listing of a phrase inside documents.
+    pub fn page_in_documents(
+        self,
+        state: Listing,
+        documents: &[u32],
+        words: &[u32],
+        start: usize,
+        count: usize,
+        lines: &mut [u32],
+    ) -> Page
+        ensures returned { λ r. ⌜ r ≡ pageOf (callOf 128 (self .shape) (lentArrays self) (now (documents .entry)) (now (words .entry)) start count (now (lines .entry))) state .page ⌝ }
+        ensures written { λ _. ⌜ now (lines .exit) ≡ pageOf (callOf 128 (self .shape) (lentArrays self) (now (documents .entry)) (now (words .entry)) start count (now (lines .entry))) state .lines ⌝ }
+    {
+        let lengths = self.lengths;
+        let bytes = self.bytes;
+        let superblocks = self.superblocks;
+        let blocks = self.blocks;
+        state.page_in_documents(
+            self.shape,
+            front(&lengths, self.sizes.nodes),
+            front_bytes(&bytes, self.sizes.bytes),
+            front(&superblocks, self.sizes.superblocks),
+            front_blocks(&blocks, self.sizes.blocks),
+            documents,
             words,
             start,
             count,

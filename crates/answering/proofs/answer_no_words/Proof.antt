@@ -14,17 +14,17 @@ accepted-requires : tie.Need-accepted-requires
 accepted-requires c κs = search needs
 
 returns : tie.Need-returns
-returns c vocab t e =
+returns c vocab t documents e =
     let st = c .before .before .before in
-    c .accepted .ensures ∙ ap accepted (omega arith) ∙ sym (no-words-counted vocab t (st .args .words .now) (st .args .start) 0 refl (omega (arith, c .before .if1 .taken)))
+    c .accepted .ensures ∙ ap accepted (omega arith) ∙ sym (no-words-counted vocab t documents (st .args .words .now) (st .args .start) 0 refl (omega (arith, c .before .if1 .taken)))
 
 refused-requires : tie.Need-refused-requires
 refused-requires c κs = search needs
 
 returns-2 : tie.Need-returns-2
-returns-2 c vocab t e =
+returns-2 c vocab t documents e =
     let st = c .before .before .before in
-    c .refused .ensures ∙ sym (no-words-past vocab t (st .args .words .now) (st .args .start) 0 refl (omega (arith, c .before .if1 .left)))
+    c .refused .ensures ∙ sym (no-words-past vocab t documents (st .args .words .now) (st .args .start) 0 refl (omega (arith, c .before .if1 .left)))
 
 pub answer-no-words-spec : {M : Type 1} → statement M
 answer-no-words-spec = tie.close (tie.spec add-accepted accepted-requires returns refused-requires returns-2)

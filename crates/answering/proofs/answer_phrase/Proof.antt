@@ -11,7 +11,7 @@ use Rattle.base.proofs.Texts.{below-of-test}
 use Rattle.index.specs.Arrays.{arrays, textIn}
 use Rattle.words.proofs.Parts.{checked-some}
 use Rattle.words.proofs.Positions.{text-most}
-use Rattle.phrases.specs.Phrases.{places}
+use Rattle.documents.specs.Documents.{placesIn}
 use Rattle.questions.specs.Answering.{phraseIn, phraseRefusal, phraseAnswer}
 use Rattle.questions.proofs.Answered.{PhraseFits, phrase-fits, phrase-refused, phrase-counted, part-length}
 use Rattle.answering.proofs.answer_phrase.Statement.{statement}
@@ -21,24 +21,24 @@ use Rattle.answering.proofs.answer_phrase.Tie as tie
 abbrev text : tie.Start → List ℕ
 text st = textIn (st .args .s) (arrays (st .args .lengths .now) (st .args .bytes .now) (st .args .superblocks .now) (st .args .blocks .now))
 
-size : (c : tie.After-text-length) → c .text-length .result ≡ length (text (c .before .before .before .before .before .before .before .before))
-size c = c .text-length .ensures .1 _ _ _ _ _ (c .before .before .before .before .before .before .before .before .pre .checked)
+size : (c : tie.After-text-length) → c .text-length .result ≡ length (text (c .before .before .before .before .before .before .before .before .before))
+size c = c .text-length .ensures .1 _ _ _ _ _ (c .before .before .before .before .before .before .before .before .before .pre .0 .checked)
 
 text-length-requires : tie.Need-text-length-requires
-text-length-requires c κs = checked-some (c .before .before .before .before .before .before .before .pre .checked)
+text-length-requires c κs = checked-some (c .before .before .before .before .before .before .before .before .pre .0 .checked)
 
 answer-no-words-requires : tie.Need-answer-no-words-requires
-answer-no-words-requires c κs = omega (arith, size c, text-most (c .before .before .before .before .before .before .before .before .pre .checked))
+answer-no-words-requires c κs = omega (arith, size c, text-most (c .before .before .before .before .before .before .before .before .before .pre .0 .checked))
 
 returns : tie.Need-returns
 returns c =
-    let st = c .before .before .before .before .before .before .before .before .before in
-    c .answer-no-words .ensures (st .args .shape .vocabulary) (text st) (sym (size (c .before)))
-    ∙ ap (phraseAnswer (st .args .shape .vocabulary) (text st) (st .args .words .now) (st .args .start)) (sym (c .before .before .if1 .taken))
+    let st = c .before .before .before .before .before .before .before .before .before .before in
+    c .answer-no-words .ensures (st .args .shape .vocabulary) (text st) (st .args .documents .now) (sym (size (c .before)))
+    ∙ ap (phraseAnswer (st .args .shape .vocabulary) (text st) (st .args .documents .now) (st .args .words .now) (st .args .start)) (sym (c .before .before .if1 .taken))
 
 -- past the test of the phrase, it is not refused, so that it can be searched for
 abbrev start : tie.Else2 → tie.Start
-start c = c .before .before .before .before .before .before .before .before .before
+start c = c .before .before .before .before .before .before .before .before .before .before
 
 none : (c : tie.Else2) → phraseRefusal (start c .args .shape .vocabulary) (start c .args .words .now) (start c .args .start) (start c .args .count) ≡ 0
 none c = sym (c .before .phrase-refusal .ensures) ∙ c .if2 .left
@@ -54,9 +54,9 @@ refused-requires c κs = search needs
 
 returns-2 : tie.Need-returns-2
 returns-2 c =
-    let st = c .before .before .before .before .before .before .before .before .before .before in
+    let st = c .before .before .before .before .before .before .before .before .before .before .before in
     c .refused .ensures ∙ ap refused (c .before .before .phrase-refusal .ensures)
-    ∙ sym (phrase-refused (st .args .shape .vocabulary) (st .args .words .now) (st .args .start) (st .args .count) _ (λ e. c .before .if2 .taken (c .before .before .phrase-refusal .ensures ∙ e)))
+    ∙ sym (phrase-refused (st .args .shape .vocabulary) (st .args .words .now) (st .args .start) (st .args .count) _ (st .args .documents .now) (λ e. c .before .if2 .taken (c .before .before .phrase-refusal .ensures ∙ e)))
 
 add-end : tie.Need-add-end
 add-end c = omega (arith, fits c .inside)
@@ -76,15 +76,17 @@ part-count-phrase-end c = omega (arith, fits c .inside)
 count-phrase-requires : tie.Need-count-phrase-requires
 unfolding phraseIn
 count-phrase-requires c κs =
-    let st = c .before .before .before .before .before .before .before .before .before .before in
+    let st = c .before .before .before .before .before .before .before .before .before .before .before in
     let m : st .args .start + st .args .count - st .args .start ≡ st .args .count = omega arith in
-    let n : length (phraseIn (st .args .words .now) (st .args .start) (st .args .count)) ≡ st .args .count = part-length (st .args .shape .vocabulary) (st .args .words .now) (st .args .start) (st .args .count) (fits (c .before) .inside) in
-    rw m (record {
-      ready = st .pre;
-      some = omega (arith, n, c .before .before .before .if1 .left);
-      most = omega (arith, n, fits (c .before) .most);
-      below = below-of-test (st .args .shape .vocabulary) (phraseIn (st .args .words .now) (st .args .start) (st .args .count)) (fits (c .before) .below);
-    })
+    let n : length (phraseIn (st .args .words .now) (st .args .start) (st .args .count)) ≡ st .args .count = part-length (st .args .shape .vocabulary) (st .args .words .now) (st .args .start) (st .args .count) (fits (c .before) .inside) in (
+      rw m (record {
+        ready = st .pre .0;
+        some = omega (arith, n, c .before .before .before .if1 .left);
+        most = omega (arith, n, fits (c .before) .most);
+        below = below-of-test (st .args .shape .vocabulary) (phraseIn (st .args .words .now) (st .args .start) (st .args .count)) (fits (c .before) .below);
+      }),
+      st .pre .1,
+    )
 
 accepted-requires : tie.Need-accepted-requires
 accepted-requires c κs = search needs
@@ -92,10 +94,10 @@ accepted-requires c κs = search needs
 returns-3 : tie.Need-returns-3
 unfolding phraseIn
 returns-3 c =
-    let st = c .before .before .before .before .before .before .before .before .before .before .before .before in
+    let st = c .before .before .before .before .before .before .before .before .before .before .before .before .before in
     let m : st .args .start + st .args .count - st .args .start ≡ st .args .count = omega arith in
-    c .accepted .ensures ∙ ap accepted (c .before .count-phrase .ensures ∙ ap (λ (k : ℕ). length (places (text st) (take k (drop (st .args .start) (st .args .words .now))))) m)
-    ∙ sym (phrase-counted (st .args .shape .vocabulary) (st .args .words .now) (st .args .start) (st .args .count) (text st) (none (c .before .before .before)))
+    c .accepted .ensures ∙ ap accepted (c .before .count-phrase .ensures ∙ ap (λ (k : ℕ). length (placesIn (st .args .documents .now) (text st) (take k (drop (st .args .start) (st .args .words .now))))) m)
+    ∙ sym (phrase-counted (st .args .shape .vocabulary) (st .args .words .now) (st .args .start) (st .args .count) (text st) (st .args .documents .now) (none (c .before .before .before)))
 
 pub answer-phrase-spec : {M : Type 1} → statement M
 answer-phrase-spec =

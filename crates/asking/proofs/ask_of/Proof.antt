@@ -1,95 +1,32 @@
--- `asking::ask_of` meets its contract: the check decides, then the question is answered of the text. Assumes nothing.
-use mathlib.Core.Path.{_≡_, sym, ap, _∙_}
-use native.Mathlib.Omega.{arith}
+-- `asking::ask_of` meets its contract: the one start by the first length is that of the text, or the check refuses. Assumes nothing.
+use mathlib.Core.Path.{ap, _∙_}
+use mathlib.Core.List.{List}
+use Prim.Native.Nat.{ℕ}
 use borrow.Author.Needs.{needs}
-use borrow.Author.Tests.{eqb-true}
-use lib.ListN.{length}
-use Rattle.index.specs.Arrays.{Arrays, arrays, textIn}
-use Rattle.base.specs.declared.Answer.{Answer}
-use Rattle.index.specs.Entries.{checkAnswer}
-use Rattle.words.proofs.Parts.{accepted-checked, checked-some, checked-most, checked-total}
-use Rattle.words.proofs.Positions.{text-most}
-use Rattle.words.specs.Ready.{Checked}
-use Rattle.questions.specs.Answering.{phraseAnswer, questionAnswer, askAnswer}
-use Rattle.questions.proofs.Answered.{check-passed, ask-refused, kind-5}
-use Rattle.questions.proofs.Read.{ask-passed}
+use Rattle.index.specs.Arrays.{Arrays, arrays}
+use Rattle.questions.specs.Answering.{askAnswerIn}
+use Rattle.questions.proofs.Read.{ask-by-root}
 use Rattle.asking.proofs.ask_of.Statement.{statement}
 use Rattle.asking.proofs.ask_of.Tie as tie
 
--- the four slices
-abbrev four : tie.Start → Arrays
-four c = arrays (c .args .lengths .now) (c .args .bytes .now) (c .args .superblocks .now) (c .args .blocks .now)
+slice-aggregate-one-start : tie.Need-slice-aggregate-one-start
+slice-aggregate-one-start c = search needs
 
--- past the first test the slices have passed the check
-module _ (c : tie.Else1) where
-  abbrev start : tie.Start
-  start = c .before .before .before .before .before .before .before .before
+one-start-requires : tie.Need-one-start-requires
+one-start-requires c κs = search needs
 
-  none : checkAnswer (start .args .s) (start .args .shape) (four start) .refusal ≡ 0
-  none = ap (λ (r : Answer). r .refusal) (sym (c .before .before .check-of .ensures)) ∙ c .if1 .left
-
-  checked : Checked (start .args .s) (start .args .shape) (four start)
-  checked = accepted-checked (start .args .s) (start .pre) (start .args .shape) (four start) none
-
-  -- and the question is answered of their text
-  answered : askAnswer (start .args .s) (start .args .shape) (four start) (start .args .words .now) (start .args .question)
-      ≡ questionAnswer (start .args .shape .vocabulary) (textIn (start .args .s) (four start)) (start .args .words .now) (start .args .question)
-  answered = ask-passed (start .args .s) (start .args .shape) (four start) (start .args .words .now) (start .args .question) (check-passed (start .args .s) (start .args .shape) (four start) none)
-
--- the length of the text as it is read
-size : (c : tie.After-text-length) → c .text-length .result ≡ length (textIn (start (c .before .before .before .before .before) .args .s) (four (start (c .before .before .before .before .before))))
-size c = c .text-length .ensures .1 _ _ _ _ _ (checked (c .before .before .before .before .before))
-
-check-of-requires : tie.Need-check-of-requires
-check-of-requires c κs = search needs
+ask-in-documents-of-requires : tie.Need-ask-in-documents-of-requires
+ask-in-documents-of-requires c κs = search needs
 
 returns : tie.Need-returns
 returns c =
     let st = c .before .before .before .before .before .before .before .before in
-    c .before .before .check-of .ensures
-    ∙ sym (ask-refused (st .args .s) (st .args .shape) (four st) (λ e. c .if1 .taken (ap (λ (r : Answer). r .refusal) (c .before .before .check-of .ensures) ∙ e)) (st .args .words .now) (st .args .question))
-
-text-length-requires : tie.Need-text-length-requires
-text-length-requires c κs = checked-some (checked (c .before .before .before .before))
-
-answer-no-words-requires : tie.Need-answer-no-words-requires
-answer-no-words-requires c κs = omega (arith, size c, text-most (checked (c .before .before .before .before .before)))
-
-returns-2 : tie.Need-returns-2
-returns-2 c =
-    let at = c .before .before .before .before .before .before in
-    let st = start at in
-    let t = textIn (st .args .s) (four st) in
-    c .answer-no-words .ensures (st .args .shape .vocabulary) t (sym (size (c .before)))
-    ∙ ap (phraseAnswer (st .args .shape .vocabulary) t (st .args .words .now) (st .args .question .start)) (sym (eqb-true (st .args .question .length) 0 (c .before .before .if3 .taken)))
-    ∙ sym (answered at ∙ kind-5 (st .args .shape .vocabulary) t (st .args .words .now) (st .args .question) (c .before .before .before .before .if2 .taken))
-
-slice-aggregate-node-starts : tie.Need-slice-aggregate-node-starts
-slice-aggregate-node-starts c = search needs
-
-node-starts-requires : tie.Need-node-starts-requires
-node-starts-requires c κs = (omega (arith, checked-most (checked (c .before .before .before))), checked-total (checked (c .before .before .before)))
-
-slice-aggregate-answer : tie.Need-slice-aggregate-answer
-slice-aggregate-answer c = search needs
-
-answer-requires : tie.Need-answer-requires
-answer-requires c κs = record { checked = checked (c .before .before .before .before .before .before); nodes = c .before .before .node-starts .ensures }
-
-returns-3 : tie.Need-returns-3
-returns-3 c = c .answer .ensures ∙ sym (answered (c .before .before .before .before .before .before .before))
+    let a : Arrays = arrays (st .args .lengths .now) (st .args .bytes .now) (st .args .superblocks .now) (st .args .blocks .now) in
+    c .ask-in-documents-of .ensures
+    ∙ ap (λ (d : List ℕ). askAnswerIn (st .args .s) (st .args .shape) a d (st .args .words .now) (st .args .question)) (c .before .one-start .ensures)
+    ∙ ask-by-root (st .args .s) (st .args .shape) a (st .args .words .now) (st .args .question) (st .pre)
 
 pub ask-of-spec : {M : Type 1} → statement M
 ask-of-spec =
     tie.close
-    (tie.spec
-    check-of-requires
-    returns
-    text-length-requires
-    answer-no-words-requires
-    returns-2
-    slice-aggregate-node-starts
-    node-starts-requires
-    slice-aggregate-answer
-    answer-requires
-    returns-3)
+    (tie.spec slice-aggregate-one-start one-start-requires ask-in-documents-of-requires returns)

@@ -11,7 +11,7 @@ use Rattle.tree.specs.declared.Place.{Place}
 use Rattle.index.specs.Arrays.{arrays, textIn}
 use Rattle.words.proofs.Parts.{checked-some}
 use Rattle.words.proofs.Positions.{text-most}
-use Rattle.matching.specs.Sought.{hitAt}
+use Rattle.matching.specs.Sought.{hitIn}
 use Rattle.hits.specs.declared.Hit.{Hit}
 use Rattle.hits.specs.declared.Hit.the-variants.{At}
 use Rattle.hits.specs.Hits.{hitsBetween, leastHit}
@@ -22,33 +22,33 @@ use Rattle.counts.proofs.count_hits.Tie as tie
 
 -- the search is not past the end, and the hits before its place are counted
 abbrev Inv-loop : tie.InvT-loop
-Inv-loop s shape lengths bytes superblocks blocks starts firsts words sought end count₀ search₀ count search =
+Inv-loop s shape lengths bytes superblocks blocks starts documents firsts words sought end count₀ search₀ count search =
     (search .place .0 ≤ end .0)
     × SearchFor s shape (arrays lengths bytes superblocks blocks) starts words sought search
-    × (count ≡ length (hitsBetween (hitAt (textIn s (arrays lengths bytes superblocks blocks)) words sought) 0 (search .place .0)))
+    × (count ≡ length (hitsBetween (hitIn documents (textIn s (arrays lengths bytes superblocks blocks)) words sought) 0 (search .place .0)))
 
 abbrev μ-loop : tie.MeasureT-loop
-μ-loop s shape lengths bytes superblocks blocks starts firsts words sought end count₀ search₀ count search = end .0 - search .place .0
+μ-loop s shape lengths bytes superblocks blocks starts documents firsts words sought end count₀ search₀ count search = end .0 - search .place .0
 
 -- the text, and the test of its places
 abbrev text : tie.Start Inv-loop μ-loop → List ℕ
 text st = textIn (st .args .s) (arrays (st .args .lengths .now) (st .args .bytes .now) (st .args .superblocks .now) (st .args .blocks .now))
 
 abbrev test : tie.Start Inv-loop μ-loop → ℕ → Bool
-test st = hitAt (text st) (st .args .words .now) (st .args .sought)
+test st = hitIn (st .args .documents .now) (text st) (st .args .words .now) (st .args .sought)
 
 abbrev start : tie.After-text-length Inv-loop μ-loop → tie.Start Inv-loop μ-loop
-start c = c .before .before .before .before .before .before .before .before
+start c = c .before .before .before .before .before .before .before .before .before
 
 -- the end is the place after that of the end of the text
 size : (c : tie.After-text-length Inv-loop μ-loop) → c .text-length .result ≡ length (text (start c))
 size c = c .text-length .ensures .1 _ _ _ _ _ (start c .pre .0 .searchable .ready .checked)
 
 text-length-requires : tie.Need-text-length-requires Inv-loop μ-loop
-text-length-requires c κs = checked-some (c .before .before .before .before .before .before .before .pre .0 .searchable .ready .checked)
+text-length-requires c κs = checked-some (c .before .before .before .before .before .before .before .before .pre .0 .searchable .ready .checked)
 
-add-t18 : tie.Need-add-t18 Inv-loop μ-loop
-add-t18 c = omega (arith, size c, text-most (start c .pre .0 .searchable .ready .checked))
+add-t19 : tie.Need-add-t19 Inv-loop μ-loop
+add-t19 c = omega (arith, size c, text-most (start c .pre .0 .searchable .ready .checked))
 
 begin-requires : tie.Need-begin-requires Inv-loop μ-loop
 begin-requires c κs = (start c .pre .0 .searchable, start c .pre .1, omega arith)
@@ -59,7 +59,7 @@ loop-holds c =
     (omega arith, c .begin .ensures .0, rw p)
 
 next-hit-requires : tie.Need-next-hit-requires Inv-loop μ-loop
-next-hit-requires c κs = (start (c .before .before) .pre .0, c .loop .inv .1, c .loop .inv .0)
+next-hit-requires c κs = (start (c .before .before) .pre .0, c .loop .inv .1, c .loop .inv .0, start (c .before .before) .pre .2)
 
 enum-told : tie.Need-enum-told Inv-loop μ-loop
 enum-told c = search needs
@@ -127,7 +127,7 @@ count-hits-spec =
     Inv-loop
     μ-loop
     text-length-requires
-    add-t18
+    add-t19
     begin-requires
     loop-holds
     next-hit-requires

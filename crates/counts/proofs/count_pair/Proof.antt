@@ -5,7 +5,7 @@ use native.Mathlib.Omega.{arith}
 use borrow.Author.Needs.{needs}
 use Rattle.base.proofs.Fronts.{front-whole}
 use Rattle.index.specs.Arrays.{arrays, textIn}
-use Rattle.phrases.specs.Neighbours.{neighbours}
+use Rattle.documents.specs.Documents.{neighboursIn}
 use Rattle.counts.proofs.Hits.{pair-hits}
 use Rattle.counts.proofs.count_pair.Statement.{statement}
 use Rattle.counts.proofs.count_pair.Tie as tie
@@ -27,19 +27,20 @@ slice-aggregate-count-hits-2 c = search needs
 
 count-hits-requires : tie.Need-count-hits-requires
 count-hits-requires c κs =
-    let st = c .before .before .before .before .before .before .before .before .before .before .before in (
+    let st = c .before .before .before .before .before .before .before .before .before .before .before .before in (
       record {
         searchable = record { ready = st .pre .0; some = omega arith; most = omega arith; below = search needs };
         firsts-are = c .before .before .before .first-bytes .ensures ∙ front-whole _ _ refl;
       },
       refl,
+      st .pre .3,
     )
 
 returns : tie.Need-returns
 returns c =
-    let st = c .before .before .before .before .before .before .before .before .before .before .before .before in
+    let st = c .before .before .before .before .before .before .before .before .before .before .before .before .before in
     let t = textIn (st .args .s) (arrays (st .args .lengths .now) (st .args .bytes .now) (st .args .superblocks .now) (st .args .blocks .now)) in
-    c .count-hits .ensures ∙ pair-hits t (st .args .w) (st .args .v) _ ∙ ap (neighbours t (st .args .w) (st .args .v)) (toZ-ofZ (st .fits .offset))
+    c .count-hits .ensures ∙ pair-hits (st .args .documents .now) t (st .args .w) (st .args .v) _ ∙ ap (neighboursIn (st .args .documents .now) t (st .args .w) (st .args .v)) (toZ-ofZ (st .fits .offset))
 
 pub count-pair-spec : {M : Type 1} → statement M
 count-pair-spec =

@@ -13,7 +13,7 @@ use Rattle.tree.specs.declared.Place.{Place}
 use Rattle.index.specs.Arrays.{arrays, textIn}
 use Rattle.words.proofs.Parts.{checked-some}
 use Rattle.words.proofs.Positions.{text-most}
-use Rattle.phrases.specs.Phrases.{stands}
+use Rattle.documents.specs.Documents.{standsIn}
 use Rattle.pages.specs.Pages.{pageOver}
 use Rattle.pages.proofs.Filling.{Filled, filled-length}
 use Rattle.pages.proofs.Searching.{Made}
@@ -30,25 +30,25 @@ use Rattle.paging.proofs.fill_page.Tie as tie
 
 -- the search is between its first place and the end, and the hits between its first place and its place are written
 abbrev Inv-loop : tie.InvT-loop
-Inv-loop s shape lengths bytes superblocks blocks starts firsts words lines₀ n end count₀ last₀ search₀ lines count last search =
+Inv-loop s shape lengths bytes superblocks blocks starts documents firsts words lines₀ n end count₀ last₀ search₀ lines count last search =
     (search₀ .place .0 ≤ search .place .0)
     × (search .place .0 ≤ end .0)
     × (last .0 ≤ maxWords)
     × SearchFor s shape (arrays lengths bytes superblocks blocks) starts words Phrase search
-    × Filled lines₀ (hitsBetween (stands (textIn s (arrays lengths bytes superblocks blocks)) words) (search₀ .place .0) (search .place .0)) lines count (last .0)
+    × Filled lines₀ (hitsBetween (standsIn documents (textIn s (arrays lengths bytes superblocks blocks)) words) (search₀ .place .0) (search .place .0)) lines count (last .0)
 
 abbrev μ-loop : tie.MeasureT-loop
-μ-loop s shape lengths bytes superblocks blocks starts firsts words lines₀ n end count₀ last₀ search₀ lines count last search = end .0 - search .place .0
+μ-loop s shape lengths bytes superblocks blocks starts documents firsts words lines₀ n end count₀ last₀ search₀ lines count last search = end .0 - search .place .0
 
 -- the text, and the test of its places
 abbrev text : tie.Start Inv-loop μ-loop → List ℕ
 text st = textIn (st .args .s) (arrays (st .args .lengths .now) (st .args .bytes .now) (st .args .superblocks .now) (st .args .blocks .now))
 
 abbrev test : tie.Start Inv-loop μ-loop → ℕ → Bool
-test st = stands (text st) (st .args .words .now)
+test st = standsIn (st .args .documents .now) (text st) (st .args .words .now)
 
 abbrev start : tie.After-text-length Inv-loop μ-loop → tie.Start Inv-loop μ-loop
-start c = c .before .before .before .before .before .before .before .before .before
+start c = c .before .before .before .before .before .before .before .before .before .before
 
 size : (c : tie.After-text-length Inv-loop μ-loop) → c .text-length .result ≡ length (text (start c))
 size c = c .text-length .ensures .1 _ _ _ _ _ (start c .pre .0 .searchable .ready .checked)
@@ -58,10 +58,10 @@ began : (c : tie.After-begin Inv-loop μ-loop) → c .begin .result .place .0 �
 began c = ap (λ (x : Place). x .0) (c .begin .ensures .1)
 
 text-length-requires : tie.Need-text-length-requires Inv-loop μ-loop
-text-length-requires c κs = checked-some (c .before .before .before .before .before .before .before .before .pre .0 .searchable .ready .checked)
+text-length-requires c κs = checked-some (c .before .before .before .before .before .before .before .before .before .pre .0 .searchable .ready .checked)
 
-add-t21 : tie.Need-add-t21 Inv-loop μ-loop
-add-t21 c = omega (arith, size c, text-most (start c .pre .0 .searchable .ready .checked))
+add-t22 : tie.Need-add-t22 Inv-loop μ-loop
+add-t22 c = omega (arith, size c, text-most (start c .pre .0 .searchable .ready .checked))
 
 begin-requires : tie.Need-begin-requires Inv-loop μ-loop
 begin-requires c κs =
@@ -79,7 +79,7 @@ loop-holds c =
     )
 
 next-hit-requires : tie.Need-next-hit-requires Inv-loop μ-loop
-next-hit-requires c κs = (start (c .before .before) .pre .0, c .loop .inv .3, c .loop .inv .1)
+next-hit-requires c κs = (start (c .before .before) .pre .0, c .loop .inv .3, c .loop .inv .1, start (c .before .before) .pre .2)
 
 -- the place after the end of the text
 module _ (c : tie.At-loop Inv-loop μ-loop) where
@@ -203,7 +203,7 @@ fill-page-spec =
     Inv-loop
     μ-loop
     text-length-requires
-    add-t21
+    add-t22
     begin-requires
     loop-holds
     next-hit-requires

@@ -23,15 +23,15 @@ use Rattle.paging.proofs.write_page.Tie as tie
 abbrev text : tie.Start → List ℕ
 text st = textIn (st .args .s) (arrays (st .args .lengths .now) (st .args .bytes .now) (st .args .superblocks .now) (st .args .blocks .now))
 
-size : (c : tie.After-text-length) → c .text-length .result ≡ length (text (c .before .before .before .before .before .before .before .before))
-size c = c .text-length .ensures .1 _ _ _ _ _ (c .before .before .before .before .before .before .before .before .pre .0)
+size : (c : tie.After-text-length) → c .text-length .result ≡ length (text (c .before .before .before .before .before .before .before .before .before))
+size c = c .text-length .ensures .1 _ _ _ _ _ (c .before .before .before .before .before .before .before .before .before .pre .0)
 
 text-length-requires : tie.Need-text-length-requires
-text-length-requires c κs = checked-some (c .before .before .before .before .before .before .before .pre .0)
+text-length-requires c κs = checked-some (c .before .before .before .before .before .before .before .before .pre .0)
 
 write-places-requires : tie.Need-write-places-requires
 write-places-requires c κs =
-    let st = c .before .before .before .before .before .before .before .before .before in
+    let st = c .before .before .before .before .before .before .before .before .before .before in
     (omega (arith, size (c .before), st .pre .3), omega (arith, size (c .before), text-most (st .pre .0)))
 
 same-length : tie.Need-same-length
@@ -39,9 +39,9 @@ same-length c = search needs
 
 returns : tie.Need-returns
 returns c =
-    let st = c .before .before .before .before .before .before .before .before .before .before .before .before in
+    let st = c .before .before .before .before .before .before .before .before .before .before .before .before .before in
     let entry = st .args .lines .now in
-    let e = none-page (text st) (st .args .words .now) (c .before .before .before .before .text-length .result) (length entry) (st .args .next .0) (c .before .before .before .before .before .if1 .taken) (size (c .before .before .before .before)) in
+    let e = none-page (st .args .documents .now) (text st) (st .args .words .now) (c .before .before .before .before .text-length .result) (length entry) (st .args .next .0) (c .before .before .before .before .before .if1 .taken) (size (c .before .before .before .before)) in
     (c .before .before .write-places .ensures .0 ∙ ap writtenOf e, c .before .before .write-places .ensures .1 ∙ ap (λ (p : HitPage). front (p .found) entry) e)
 
 slice-aggregate-node-starts : tie.Need-slice-aggregate-node-starts
@@ -49,7 +49,7 @@ slice-aggregate-node-starts c = search needs
 
 node-starts-requires : tie.Need-node-starts-requires
 node-starts-requires c κs =
-    let st = c .before .before .before .before .before .before .before .before in
+    let st = c .before .before .before .before .before .before .before .before .before in
     (omega (arith, checked-most (st .pre .0)), checked-total (st .pre .0))
 
 slice-aggregate-first-bytes : tie.Need-slice-aggregate-first-bytes
@@ -57,7 +57,7 @@ slice-aggregate-first-bytes c = search needs
 
 first-bytes-requires : tie.Need-first-bytes-requires
 first-bytes-requires c κs =
-    let st = c .before .before .before .before .before .before .before .before .before .before .before in
+    let st = c .before .before .before .before .before .before .before .before .before .before .before .before in
     (st .pre .0 .closing, below-weaken (st .args .shape .vocabulary) (maxVocabulary (st .args .s)) (st .args .words .now) (st .pre .0 .limits .mostWords) (st .pre .2), omega (arith, st .pre .1))
 
 slice-aggregate-fill-page : tie.Need-slice-aggregate-fill-page
@@ -68,12 +68,12 @@ array-share-prefix-table c = search needs
 
 slice-aggregate-fill-page-2 : tie.Need-slice-aggregate-fill-page-2
 slice-aggregate-fill-page-2 c =
-    let st = c .before .before .before .before .before .before .before .before .before .before .before .before .before .before .before in
+    let st = c .before .before .before .before .before .before .before .before .before .before .before .before .before .before .before .before in
     sym (ap length (first-bytes-part (st .args .s) (st .args .words .now) _ _ (c .before .before .before .first-bytes .ensures)) ∙ first-bytes-length (st .args .s) (st .args .words .now))
 
 fill-page-requires : tie.Need-fill-page-requires
 fill-page-requires c κs =
-    let st = c .before .before .before .before .before .before .before .before .before .before .before .before .before .before .before .before in (
+    let st = c .before .before .before .before .before .before .before .before .before .before .before .before .before .before .before .before .before in (
       searching (st .args .words .now) _ _
           record {
             ready = record { checked = st .pre .0; nodes = c .before .before .before .before .before .before .before .node-starts .ensures };
@@ -83,6 +83,7 @@ fill-page-requires c κs =
           }
           (c .before .before .before .before .first-bytes .ensures),
       st .pre .3,
+      st .pre .4,
     )
 
 same-length-2 : tie.Need-same-length-2

@@ -1,13 +1,20 @@
--- `concordance::sheets::prepare` meets its contract: the check decides, then the room, and then the table is filled. Assumes nothing.
+-- `sheets::prepare` meets its contract: the check with the rules of the starts decides, then the room, and then the table is filled. Assumes
+-- nothing.
 use mathlib.Core.Path.{_≡_, sym, ap, _∙_}
+use mathlib.Core.Bool.{true}
 use native.Mathlib.Omega.{arith}
 use borrow.Author.Needs.{needs}
+use lib.ListN.{length}
 use Rattle.base.specs.declared.Answer.{Answer}
-use Rattle.index.specs.Arrays.{Arrays, arrays}
+use Rattle.base.specs.Answers.{accepted}
+use Rattle.index.specs.Arrays.{Arrays, arrays, textIn}
 use Rattle.index.specs.Entries.{checkAnswer}
 use Rattle.words.specs.Ready.{Checked}
 use Rattle.words.proofs.Parts.{accepted-checked, checked-most, checked-total}
-use Rattle.sheets.proofs.Tested.{sheet-index, sheet-short, sheet-accepted}
+use Rattle.documents.specs.Documents.{areStarts}
+use Rattle.documents.proofs.Starts.{starts-are}
+use Rattle.questions.proofs.Checks.{check-in-clear}
+use Rattle.sheets.proofs.Tested.{sheet-checked, sheet-short, sheet-accepted}
 use Rattle.sheets.proofs.prepare.Statement.{statement}
 use Rattle.sheets.proofs.prepare.Tie as tie
 
@@ -15,38 +22,41 @@ use Rattle.sheets.proofs.prepare.Tie as tie
 abbrev four : tie.Start → Arrays
 four c = arrays (c .args .lengths .now) (c .args .bytes .now) (c .args .superblocks .now) (c .args .blocks .now)
 
--- past the first test the slices have passed the check
-none : (c : tie.Else1) → let st = c .before .before .before .before .before .before .before .before in
-    checkAnswer (st .args .s) (st .args .shape) (four st) .refusal ≡ 0
-none c = ap (λ (r : Answer). r .refusal) (sym (c .before .before .check-of .ensures)) ∙ c .if1 .left
+-- past the first test the slices have passed the check, and the starts keep the rules
+module _ (c : tie.Else1) where
+  abbrev start : tie.Start
+  start = c .before .before .before .before .before .before .before .before .before
 
-checked : (c : tie.Else1) → let st = c .before .before .before .before .before .before .before .before in
-    Checked (st .args .s) (st .args .shape) (four st)
-checked c =
-    let st = c .before .before .before .before .before .before .before .before in
-    accepted-checked (st .args .s) (st .pre .0) (st .args .shape) (four st) (none c)
+  clear : (checkAnswer (start .args .s) (start .args .shape) (four start) ≡ accepted 0) × (areStarts (length (textIn (start .args .s) (four start))) (start .args .documents .now) ≡ true)
+  clear = check-in-clear (start .args .s) (start .args .shape) (four start) (start .args .documents .now) (ap (λ (r : Answer). r .refusal) (sym (c .before .before .check-in-documents .ensures)) ∙ c .if1 .left)
 
-check-of-requires : tie.Need-check-of-requires
-check-of-requires c κs = search needs
+  checked : Checked (start .args .s) (start .args .shape) (four start)
+  checked = accepted-checked (start .args .s) (start .pre .0) (start .args .shape) (four start) (ap (λ (r : Answer). r .refusal) (clear .0))
+
+check-in-documents-requires : tie.Need-check-in-documents-requires
+check-in-documents-requires c κs = search needs
 
 returns : tie.Need-returns
 returns c =
-    let st = c .before .before .before .before .before .before .before .before in
-    let some : checkAnswer (st .args .s) (st .args .shape) (four st) .refusal ≡ 0 → ⊥ = λ e. c .if1 .taken (ap (λ (r : Answer). r .refusal) (c .before .before .check-of .ensures) ∙ e) in
-    (c .before .before .check-of .ensures ∙ sym (sheet-index (st .args .s) (st .args .shape) (four st) (st .args .asked) (st .args .room) some), λ e. absurd (c .if1 .taken e))
+    let st = c .before .before .before .before .before .before .before .before .before in
+    let e = c .before .before .check-in-documents .ensures in
+    (e ∙ sym (sheet-checked (st .args .s) (st .args .shape) (four st) (st .args .documents .now) (st .args .asked) (st .args .room) (λ z. c .if1 .taken (ap (λ (r : Answer). r .refusal) e ∙ z))), λ z. absurd (c .if1 .taken z))
 
 refused-requires : tie.Need-refused-requires
 refused-requires c κs = search needs
 
 returns-2 : tie.Need-returns-2
 returns-2 c =
-    let st = c .before .before .before .before .before .before .before .before .before .before in (
-      c .refused .ensures ∙ sym (sheet-short (st .args .s) (st .args .shape) (four st) (st .args .asked) (st .args .room) (none (c .before .before)) (omega (arith, c .before .if2 .taken))),
+    let at = c .before .before in
+    let st = start at in (
+      c .refused .ensures ∙ sym (sheet-short (st .args .s) (st .args .shape) (four st) (st .args .documents .now) (st .args .asked) (st .args .room) (clear at .0) (clear at .1) (omega (arith, c .before .if2 .taken))),
       λ e. absurd (omega (arith, ap (λ (r : Answer). r .refusal) (c .refused .ensures), e)),
     )
 
 node-starts-requires : tie.Need-node-starts-requires
-node-starts-requires c κs = (omega (arith, checked-most (checked (c .before .before))), checked-total (checked (c .before .before)))
+node-starts-requires c κs =
+    let at = c .before .before in
+    (omega (arith, checked-most (checked at)), checked-total (checked at))
 
 mul-accepted : tie.Need-mul-accepted
 mul-accepted c = search needs
@@ -59,16 +69,17 @@ same-length c = search needs
 
 returns-3 : tie.Need-returns-3
 returns-3 c =
-    let st = c .before .before .before .before .before .before .before .before .before .before .before .before .before .before in (
-      c .accepted .ensures ∙ sym (sheet-accepted (st .args .s) (st .args .shape) (four st) (st .args .asked) (st .args .room) (none (c .before .before .before .before .before .before)) (omega (arith, c .before .before .before .before .before .if2 .left))),
-      λ e. c .before .before .before .node-starts .ensures,
+    let at = c .before .before .before .before .before .before in
+    let st = start at in (
+      c .accepted .ensures ∙ sym (sheet-accepted (st .args .s) (st .args .shape) (four st) (st .args .documents .now) (st .args .asked) (st .args .room) (clear at .0) (clear at .1) (omega (arith, c .before .before .before .before .before .if2 .left))),
+      λ e. (starts-are (length (textIn (st .args .s) (four st))) (st .args .documents .now) (clear at .1) .ascending, c .before .before .before .node-starts .ensures),
     )
 
 pub prepare-spec : {M : Type 1} → statement M
 prepare-spec =
     tie.close
     (tie.spec
-    check-of-requires
+    check-in-documents-requires
     returns
     refused-requires
     returns-2

@@ -1,7 +1,9 @@
 -- `small_indexes::SmallIndex::page` meets its contract: the page is that of the arrays that are lent. Assumes nothing.
 use borrow.Author.Needs.{needs}
 use mathlib.Core.Path.{ap, _∙_}
-use Rattle.index.specs.Arrays.{Arrays}
+use lib.ListN.{length}
+use Rattle.index.specs.Arrays.{Arrays, textIn}
+use Rattle.documents.specs.Documents.{oneStart}
 use Rattle.listing.specs.Paging.{callOf, pageOf}
 use Rattle.small_indexes.proofs.Lent.{four-lent}
 use Rattle.small_indexes.proofs.SmallIndex.page.Statement.{statement}
@@ -41,8 +43,8 @@ returns : tie.Need-returns
 returns c =
     let st = c .before .before .before .before .before .before .before .before .before .before .before .before .before .before .before .before .before .before in
     let four = four-lent (st .args .self) (c .before .before .before .before .before .before .before .before .before .before .front .ensures) (c .before .before .before .before .before .before .before .before .front-bytes .ensures) (c .before .before .before .before .before .before .front2 .ensures) (c .before .before .before .before .front-blocks .ensures) in (
-      c .before .before .page .ensures .0 ∙ ap (λ (a : Arrays). pageOf (callOf 128 (st .args .self .shape) a (st .args .words .now) (st .args .start) (st .args .count) (st .args .lines .now)) (st .args .state) .page) four,
-      c .before .before .page .ensures .1 ∙ ap (λ (a : Arrays). pageOf (callOf 128 (st .args .self .shape) a (st .args .words .now) (st .args .start) (st .args .count) (st .args .lines .now)) (st .args .state) .lines) four,
+      c .before .before .page .ensures .0 ∙ ap (λ (a : Arrays). pageOf (callOf 128 (st .args .self .shape) a (oneStart (length (textIn 128 a))) (st .args .words .now) (st .args .start) (st .args .count) (st .args .lines .now)) (st .args .state) .page) four,
+      c .before .before .page .ensures .1 ∙ ap (λ (a : Arrays). pageOf (callOf 128 (st .args .self .shape) a (oneStart (length (textIn 128 a))) (st .args .words .now) (st .args .start) (st .args .count) (st .args .lines .now)) (st .args .state) .lines) four,
     )
 
 pub page-spec : {M : Type 1} → statement M

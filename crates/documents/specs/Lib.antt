@@ -1,0 +1,2 @@
+pub mod Documents
+pub mod Samples
