@@ -17,6 +17,9 @@
 //     words R..                  the words that are lent for phrases
 //     1 P / 2 W P / 3 W P / 4 W V D / 5 START LENGTH     a question by the maker of its kind
 //     ask KIND W V D P START LENGTH                      a question with every field given
+//     group S..                  the document starts that questions and pages bring from here on
+//     join                       they bring none
+//     yield START LENGTH SIZE    a summary of a phrase with these starts, in so many elements
 //     quote P SIZE               a passage
 //     open / open NEXT FINISHED  the state of a listing: the opening one, or any
 //     page START LENGTH SIZE     a page of the listing
@@ -26,9 +29,9 @@
 //     iterate LIST RANKS SIZE BYTES   makes one of so many bytes: those given, over and over again
 //     unique LIST RANKS COUNT    makes one of so many words that stand once each
 //
-// Slices that are filled held nothing but 7 before, those of lines, of word lists and of ranks read
-// from plain text nothing but 9. Of a word list that is made and of its ranks the first 20 elements
-// are printed.
+// Slices that are filled held nothing but 7 before, those of lines, of counts, of word lists and of
+// ranks read from plain text nothing but 9. Of a word list that is made and of its ranks the first 20
+// elements are printed.
 mod lists;
 mod shown;
 mod state;

@@ -1,15 +1,52 @@
 // The calls that leave the state as it is.
 use crate::state::State;
+use base::Answer;
 use given::Numbers;
 use measuring::IndexSizes;
 use questions::Question;
 use small_indexes::shape_of;
 
-// Asks a question of the index and the lent words.
-fn ask(state: State, question: Question) {
+// The answer to a question of the index and the lent words, with the document starts where calls
+// bring them.
+fn answer(state: State, question: Question) -> Answer {
     let small = state.small;
     let words = state.words;
-    printing::answered(small.ask(small_indexes::front(&words, state.count), question));
+    if !state.brought {
+        return small.ask(small_indexes::front(&words, state.count), question);
+    }
+    let documents = state.documents;
+    small.ask_in_documents(
+        small_indexes::front(&documents, state.starts),
+        small_indexes::front(&words, state.count),
+        question,
+    )
+}
+
+// Asks a question.
+fn ask(state: State, question: Question) {
+    printing::answered(answer(state, question));
+}
+
+// Counts a phrase in each document into a slice.
+fn count(state: State, numbers: Numbers, counts: &mut [u32]) {
+    let small = state.small;
+    let words = state.words;
+    let documents = state.documents;
+    let answer = small.summary(
+        small_indexes::front(&documents, state.starts),
+        small_indexes::front(&words, state.count),
+        numbers.values[0],
+        numbers.values[1],
+        counts,
+    );
+    printing::answered_with_ranks(answer, counts);
+}
+
+// Counts a phrase in each document into so many elements, at most 20.
+fn summary(state: State, numbers: Numbers) {
+    let mut counts = [9u32; 20];
+    let size = base::least(numbers.values[2], 20);
+    count(state, numbers, &mut counts[..size]);
 }
 
 // The question of kind 1 to 5 by its maker.
@@ -215,6 +252,7 @@ pub fn show(state: State, line: &[u8], numbers: Numbers) {
         b'a' => ask_any(state, numbers),
         b'c' => check(state),
         b'q' => quote(state, numbers),
+        b'y' => summary(state, numbers),
         b'n' => needs(numbers),
         b'r' => room(numbers, false),
         b'h' => room(numbers, true),

@@ -1,15 +1,20 @@
-// What the lines of the cases build up: the index, the lent words, the state of the listing, and the
-// word list.
+// What the lines of the cases build up: the index, the lent words, the document starts, the state of
+// the listing, and the word list.
 use given::Numbers;
 use listing::Listing;
+use listing::Page;
 use small_indexes::SmallIndex;
 use small_indexes::shape_of;
 
-// The index that calls are lent, the lent words, the state of the listing, and the word list.
+// The index that calls are lent, the lent words, the document starts and whether calls bring them,
+// the state of the listing, and the word list.
 pub struct State {
     pub small: SmallIndex,
     pub words: [u32; given::MOST],
     pub count: usize,
+    pub documents: [u32; given::MOST],
+    pub starts: usize,
+    pub brought: bool,
     pub listing: Listing,
     pub list: [u8; 64],
     pub size: usize,
@@ -24,16 +29,33 @@ fn yes_or_no(yes: bool) {
     }
 }
 
-// Turns a page into a slice, and prints what the call returns and leaves.
-fn turn(state: State, words: &[u32], numbers: Numbers, lines: &mut [u32]) -> Listing {
+// A page of the listing, with the document starts where calls bring them.
+fn page(
+    state: State,
+    documents: &[u32],
+    words: &[u32],
+    numbers: Numbers,
+    lines: &mut [u32],
+) -> Page {
     let small = state.small;
-    let page = small.page(
-        state.listing,
-        words,
-        numbers.values[0],
-        numbers.values[1],
-        lines,
-    );
+    let listing = state.listing;
+    let start = numbers.values[0];
+    let count = numbers.values[1];
+    if !state.brought {
+        return small.page(listing, words, start, count, lines);
+    }
+    small.page_in_documents(listing, documents, words, start, count, lines)
+}
+
+// Turns a page into a slice, and prints what the call returns and leaves.
+fn turn(
+    state: State,
+    documents: &[u32],
+    words: &[u32],
+    numbers: Numbers,
+    lines: &mut [u32],
+) -> Listing {
+    let page = page(state, documents, words, numbers, lines);
     printing::words(b": ");
     printing::answer(page.answer);
     printing::words(b", more ");
@@ -80,12 +102,16 @@ fn with_block(mut small: SmallIndex, i: usize, x: usize) -> SmallIndex {
 }
 
 impl State {
-    // The index of the text of no words with V 1, no lent words, an opened listing, and no list.
+    // The index of the text of no words with V 1, no lent words, no document starts, an opened
+    // listing, and no list.
     pub fn first() -> State {
         State {
             small: SmallIndex::of(1, &[], 1, 0),
             words: [0; given::MOST],
             count: 0,
+            documents: [0; given::MOST],
+            starts: 0,
+            brought: false,
             listing: Listing::open(),
             list: [0; 64],
             size: 0,
@@ -150,6 +176,22 @@ impl State {
         self
     }
 
+    // Brings document starts from here on.
+    fn grouped(mut self, numbers: Numbers) -> State {
+        let starts = given::ranks_of(numbers, 0);
+        let values = starts.values;
+        self.documents = values;
+        self.starts = starts.count;
+        self.brought = true;
+        self
+    }
+
+    // Brings none from here on.
+    fn joined(mut self) -> State {
+        self.brought = false;
+        self
+    }
+
     // Opens the listing, or sets its state to any.
     fn opened(mut self, numbers: Numbers) -> State {
         let mut listing = Listing::open();
@@ -166,10 +208,12 @@ impl State {
     // Turns a page of so many lines, at most 20.
     fn paged(mut self, numbers: Numbers) -> State {
         let words = self.words;
+        let documents = self.documents;
         let mut lines = [9u32; 20];
         let count = base::least(numbers.values[2], 20);
         let lent = small_indexes::front(&words, self.count);
-        let listing = turn(self, lent, numbers, &mut lines[..count]);
+        let starts = small_indexes::front(&documents, self.starts);
+        let listing = turn(self, starts, lent, numbers, &mut lines[..count]);
         self.listing = listing;
         self
     }
@@ -198,6 +242,8 @@ impl State {
             b'o' => self.opened(numbers),
             b'p' => self.paged(numbers),
             b'l' => self.listed(line),
+            b'g' => self.grouped(numbers),
+            b'j' => self.joined(),
             _ => self,
         }
     }

@@ -233,6 +233,30 @@ fn list_places() {
     end(b"not 5: the count is unlike the listing");
 }
 
+// Lists the phrase 7 7 in a text of two documents, and counts it in both together and in each.
+fn list_in_documents() {
+    let small = SmallIndex::of(8, &[7; 4], 1, 4);
+    let starts = [0, 2];
+    let mut lines = [9u32; 2];
+    small.page_in_documents(Listing::open(), &starts, &[7, 7], 0, 2, &mut lines);
+    printing::words(
+        b"With a document that starts at place 2, the phrase 7 7 is listed in 7 7 7 7 at:",
+    );
+    printing::ranks(&lines);
+    end(b"with 1: a phrase that begins in one document and ends in the next is listed");
+    start(b"How often it is counted with that document");
+    value(small.ask_in_documents(&starts, &[7, 7], Question::phrase(0, 2)));
+    end(b"not 2: the count is unlike the listing");
+    let mut counts = [9u32; 2];
+    small.summary(&starts, &[7, 7], 0, 2, &mut counts);
+    printing::words(b"How often it stands in each of the two documents:");
+    printing::ranks(&counts);
+    end(b"not 1 1: a count is given to another document");
+    start(b"With a document that starts at the end of the text");
+    refused(small.ask_in_documents(&[0, 4], &[7, 7], Question::phrase(0, 2)));
+    end(b"not 19: a document without a word is taken for one");
+}
+
 // Builds a text in slices of two nodes, eight bytes and two rows of counters of each kind, with sizes
 // that are handed back.
 fn build(text: &[u32], sizes: IndexSizes) -> Answer {
@@ -303,5 +327,6 @@ fn main() {
     read_passage();
     list_phrase();
     list_places();
+    list_in_documents();
     count_words();
 }

@@ -18,6 +18,12 @@ slice-aggregate-front c = search needs
 front-requires : tie.Need-front-requires
 front-requires c κs = search needs
 
+slice-aggregate-front-2 : tie.Need-slice-aggregate-front-2
+slice-aggregate-front-2 c = search needs
+
+front-requires-2 : tie.Need-front-requires-2
+front-requires-2 c κs = search needs
+
 array-borrow-prefix-lines : tie.Need-array-borrow-prefix-lines
 array-borrow-prefix-lines c = search needs
 
@@ -38,6 +44,8 @@ paged-spec =
     least-requires
     slice-aggregate-front
     front-requires
+    slice-aggregate-front-2
+    front-requires-2
     array-borrow-prefix-lines
     slice-aggregate-turn
     turn-requires
