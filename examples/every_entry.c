@@ -1,4 +1,4 @@
-/* Calls each of the sixteen entries on a small text, the sample of the scope paper, and shows a refusal of each entry that has one to teach. */
+/* Calls each of the twenty entries on a small text, the sample of the scope paper, and shows a refusal of each entry that has one to teach. */
 #include "concordance.h"
 
 #include <stdio.h>
@@ -155,7 +155,66 @@ static void every_place(void) {
     } while (page.more);
 }
 
-/* Entry 12: plain text through a word list. */
+/* Document starts of the text: with the first it is made of 0 128 and 0 129 128, with the second of 0 and 128 0 129 128; the last two break a rule. */
+static const uint32_t after[2] = {0, 2}, inside[2] = {0, 1}, at_the_end[2] = {0, WORDS}, twice[2] = {0, 0};
+
+/* Entries 12 and 13: questions with document starts. The phrase 0 128 stands at place 0, and with a border between its words nowhere; the phrase of no
+   words keeps its places. */
+static void questions_in_documents(void) {
+    const uint32_t words[2] = {0, 128};
+    const concordance_question phrase = {.kind = 5, .start = 0, .length = 2}, rank = {.kind = 1, .p = 3};
+    show("ask_in_documents, a border after 0 128", concordance_ask_in_documents(shape, INDEX, after, 2, words, 2, phrase));
+    show("ask_in_documents, a border inside 0 128", concordance_ask_in_documents(shape, INDEX, inside, 2, words, 2, phrase));
+    show("ask_in_documents, a start at the end", concordance_ask_in_documents(shape, INDEX, at_the_end, 2, words, 2, phrase));
+    show("ask_in_documents, kind 1, no start", concordance_ask_in_documents(shape, INDEX, after, 0, words, 2, rank));
+
+    const concordance_question sheet[6] = {
+        {.kind = 4, .w = 0, .v = 129, .d = 1},    /* 129 right after 0, in the second document */
+        {.kind = 4, .w = 0, .v = 128, .d = -1},   /* 128 right before 0, in the document before */
+        {.kind = 5, .start = 0, .length = 2},     /* the phrase 0 128 */
+        {.kind = 5, .start = 2, .length = 0},     /* the phrase of no words */
+        {.kind = 3, .w = 128, .p = 2},            /* the place of the second 128, in whichever document */
+        {.kind = 5, .start = 0, .length = 17},    /* a phrase of 17 words */
+    };
+    uint32_t answers[12];
+    show("answer_sheet_in_documents", concordance_answer_sheet_in_documents(shape, INDEX, after, 2, words, 2, sheet, 6, answers, 12));
+    for (size_t i = 0; i < 6; i++) printf(" kind %u: refusal %u, value %u\n", sheet[i].kind, answers[2 * i], answers[2 * i + 1]);
+    show("answer_sheet_in_documents, a start twice", concordance_answer_sheet_in_documents(shape, INDEX, twice, 2, words, 2, sheet, 6, answers, 12));
+    show("answer_sheet_in_documents, room for 11 numbers", concordance_answer_sheet_in_documents(shape, INDEX, after, 2, words, 2, sheet, 6, answers, 11));
+}
+
+/* Entry 14: the places of 128 on pages of one line; a page whose starts break a rule hands back the state, and the listing goes on. Then those of 128 0,
+   which stands across a border. */
+static void pages_in_documents(void) {
+    const uint32_t words[2] = {128, 0};
+    uint32_t line[1];
+    concordance_page page = {.listing = concordance_open()};
+    do {
+        page = concordance_list_in_documents(page.listing, shape, INDEX, at_the_end, 2, words, 2, 0, 1, line, 1);
+        show("list_in_documents, a start at the end", page.answer);
+        page = concordance_list_in_documents(page.listing, shape, INDEX, after, 2, words, 2, 0, 1, line, 1);
+        show("list_in_documents", page.answer);
+        printf(" place %u, next %zu, %s\n", line[0], page.listing.next, page.more ? "more follow" : "the end");
+    } while (page.more);
+    page = concordance_list_in_documents(concordance_open(), shape, INDEX, after, 2, words, 2, 0, 2, line, 1);
+    show("list_in_documents, 128 0", page.answer);
+    printf(" next %zu, %s\n", page.listing.next, page.more ? "more follow" : "the end");
+}
+
+/* Entry 15: how often a phrase stands in each document. */
+static void summaries(void) {
+    const uint32_t words[2] = {0, 128};
+    uint32_t counts[3] = {9, 9, 9};
+    show("summary, 128", concordance_summary(shape, INDEX, after, 2, words, 2, 1, 1, counts, 3));
+    show_numbers(counts, 3); /* the last stays */
+    show("summary, 0 128", concordance_summary(shape, INDEX, after, 2, words, 2, 0, 2, counts, 2));
+    show_numbers(counts, 2);
+    show("summary, no words", concordance_summary(shape, INDEX, after, 2, words, 2, 0, 0, counts, 2));
+    show("summary, room for 1 count", concordance_summary(shape, INDEX, after, 2, words, 2, 0, 1, counts, 1));
+    show("summary, a start twice", concordance_summary(shape, INDEX, twice, 2, words, 2, 0, 0, counts, 1)); /* 8 and 12 apply besides */
+}
+
+/* Entry 16: plain text through a word list. */
 static void plain_text(void) {
     const char *list = "tick\ntock\n", *plain = "Tick, tock! TICK.", *other = "tick, tack";
     uint32_t ranks[3];
@@ -165,7 +224,7 @@ static void plain_text(void) {
     show("read_text, an unclosed list", concordance_read_text((const uint8_t *)list, strlen(list) - 1, (const uint8_t *)plain, strlen(plain), ranks, 3));
 }
 
-/* Entry 13: the word list of a plain text that comes without one, and the text's ranks by it. */
+/* Entry 17: the word list of a plain text that comes without one, and the text's ranks by it. */
 static void word_lists(void) {
     const char *plain = "Tock, tick! TICK.";
     uint8_t list[10];
@@ -190,7 +249,7 @@ static void fill_letters(uint8_t letters[LETTERS]) {
     }
 }
 
-/* Entries 14, 15 and 16: a letter table of one's own, which is the built-in one with F7 as a letter and D7 as its capital, its check, and reading plain
+/* Entries 18, 19 and 20: a letter table of one's own, which is the built-in one with F7 as a letter and D7 as its capital, its check, and reading plain
    text and making a list by it. */
 static void own_letters(void) {
     uint8_t letters[LETTERS];
@@ -228,6 +287,9 @@ int main(void) {
     passages();
     pages();
     every_place();
+    questions_in_documents();
+    pages_in_documents();
+    summaries();
     plain_text();
     word_lists();
     own_letters();

@@ -28,6 +28,17 @@
  * Every call that is lent a table checks it, also one that was checked before, and refuses one that breaks a rule by 18. Entry 00 may be a letter,
  * as every entry but 0A: the byte 00 of a text is then read as that letter.
  *
+ * Documents. A text may be made of documents, one after another without a gap. Its document starts are the places at which they begin. A call that is
+ * lent starts, any numbers, takes a pair of neighbours only where both words lie in one document, and a phrase of one word or more only where all its
+ * words do. The phrase of no words keeps its places, 0 to n. The rules of starts:
+ *   the first is 0;
+ *   each is above the one before it;
+ *   all are below n;
+ *   there is none only if the text is empty.
+ * So the empty text has no document, and every other text at least one. Every call that is lent starts tries them, whatever it is asked, and refuses ones
+ * that break a rule by 19. A call without starts takes the text as one run from end to end: it answers as with the one start 0, in the empty text as with no
+ * start.
+ *
  * The check. Every call that is lent an index checks it, in one pass over its bytes. The check says that some text has these arrays as its
  * index, and then only one text has. It cannot say that they are the arrays that were written: a changed byte can make them the index of
  * another text, and seeing that is the work of a checksum. Since each call makes the check, many contexts are one sheet of questions of kind
@@ -35,13 +46,14 @@
  *
  * Answers. An accepted call returns the refusal 0 and its value. A call that is turned down returns the number of its refusal, with the
  * value that the table below gives, and writes nothing: all lent memory stays as it was. The refusals of each call are listed at it in the
- * order in which they are tried, and where several apply, the first of them is returned (16 and 17 are tried before 5, 18 before all others). No
- * call keeps a pointer, and equal arguments have equal answers.
+ * order in which they are tried, and where several apply, the first of them is returned (16 and 17 are tried before 5, 18 before all others, 19 after
+ * 6 and before 7). No call keeps a pointer, and equal arguments have equal answers.
  *
  * Stack. No call allocates memory; its tables lie on the stack. The most that a call needs, as bench/stack.c measures it on x86-64:
  *   concordance_read_text, concordance_read_text_with: 1463 KB
  *   concordance_make_list, concordance_make_list_with: 919 KB
- *   concordance_build, concordance_build_sized, concordance_ask, concordance_answer_sheet, concordance_passage, concordance_list: 265 KB
+ *   concordance_build, concordance_build_sized, concordance_ask, concordance_answer_sheet, concordance_passage, concordance_list,
+ *   concordance_ask_in_documents, concordance_answer_sheet_in_documents, concordance_list_in_documents, concordance_summary: 265 KB
  *   concordance_check: 3 KB
  *   concordance_write_stream, concordance_read_stream, concordance_measure, concordance_open, concordance_check_letters: less than 1 KB
  */
@@ -56,7 +68,7 @@
  * The version of this header. It changes when an entry is added, or a struct or the meaning of an entry changes, so that a program can tell
  * what it was written for.
  */
-#define CONCORDANCE_VERSION 5
+#define CONCORDANCE_VERSION 6
 
 #ifdef __cplusplus
 extern "C" {
@@ -79,7 +91,7 @@ enum {
     CONCORDANCE_REFUSED_INDEX = 6,
     /* kind outside 1 to 5 */
     CONCORDANCE_REFUSED_KIND = 7,
-    /* phrase length above 16, or part outside the lent words; an empty part is outside if it starts past their end */
+    /* phrase length above 16, or part outside the lent words; an empty part is outside if it starts past their end; in a summary, length 0 too */
     CONCORDANCE_REFUSED_PHRASE = 8,
     /* a rank asked about is not below V */
     CONCORDANCE_REFUSED_ASKED_RANK = 9,
@@ -87,7 +99,7 @@ enum {
     CONCORDANCE_REFUSED_OFFSET = 10,
     /* place or ordinal outside its range; a listing's next place above n */
     CONCORDANCE_REFUSED_PLACE = 11,
-    /* page of length 0, or answer slice shorter than two per question */
+    /* page of length 0, answer slice shorter than two per question, or slice for a summary shorter than one per document */
     CONCORDANCE_REFUSED_PAGE = 12,
     /* the word list breaks a rule */
     CONCORDANCE_REFUSED_WORD_LIST = 13,
@@ -100,7 +112,9 @@ enum {
     /* a plain text to make a list of has more than 65,536 bytes, or more than 4,096 distinct words */
     CONCORDANCE_REFUSED_LIST_MAKING = 17,
     /* the letter table breaks a rule: 256 entries, each 0 or a byte that the table keeps, entry 0A is 0, some entry is not 0 */
-    CONCORDANCE_REFUSED_TABLE = 18
+    CONCORDANCE_REFUSED_TABLE = 18,
+    /* the document starts break a rule: the first is 0, each is above the one before it, all are below n, there is none only if the text is empty */
+    CONCORDANCE_REFUSED_DOCUMENTS = 19
 };
 
 /* The limits. */
@@ -153,6 +167,8 @@ typedef struct {
  *   4  the number of places q with w at q and v at q + d, where q + d is inside the text; d from -16 to 16, negative to the left
  *   5  how often the phrase stands that is the part (start, length) of the lent words, up to 16 of them; hits may overlap. The phrase of no
  *      words, length 0, stands at every place from 0 to n: n + 1 times, once in the empty text
+ * In a call that is lent document starts, kind 4 counts q only where q and q + d lie in one document, and kind 5 a phrase of one word or more only where
+ * all its words do; kinds 1 to 3 and the phrase of no words have the same answers as without.
  */
 typedef struct {
     uint32_t kind;
@@ -168,10 +184,11 @@ typedef struct {
  * The state of a listing: the next place, and whether it is finished, which is 0 or 1 (another value of the byte is no bool).
  *
  * Over a whole listing. Begin with concordance_open, and hand each call the state that the call before it returned, whether that was
- * accepted or refused. If all accepted calls bring the same phrase and the same V, B, b and arrays, then the places of the accepted pages, one
- * page after another, are the places at which the phrase stands in the text: ascending, each once, none missing as soon as a page is
- * accepted without reporting more; then they are as many as concordance_ask, kind 5, counts. The page with the last place reports the end,
- * and so does the first page where there is none. The places of the phrase of no words are 0, 1, .., n.
+ * accepted or refused. If all accepted calls bring the same phrase and the same V, B, b and arrays, and the same document starts or none, then the
+ * places of the accepted pages, one page after another, are the places at which the phrase stands in the text, with starts inside one document:
+ * ascending, each once, none missing as soon as a page is accepted without reporting more; then they are as many as concordance_ask, kind 5, counts, or
+ * concordance_ask_in_documents with the same starts. The page with the last place reports the end, and so does the first page where there is none. The
+ * places of the phrase of no words are 0, 1, .., n.
  */
 typedef struct {
     size_t next;
@@ -324,6 +341,64 @@ concordance_page concordance_list(concordance_listing listing, concordance_shape
                                   const uint8_t *bytes, size_t bytes_len, const uint32_t *superblocks, size_t superblocks_len,
                                   const uint16_t *blocks, size_t blocks_len, const uint32_t *words, size_t words_len, size_t start, size_t length,
                                   uint32_t *lines, size_t lines_len);
+
+/*
+ * Asks one question of an index as concordance_ask, with document starts: a pair of neighbours (kind 4) counts only where both words lie in one
+ * document, and a phrase of one word or more (kind 5) only where all its words do. With the one start 0 of a text that has words, and with no start of the
+ * empty text, the answers are those of concordance_ask.
+ * Returns: the answer by the question's kind, as concordance_question says.
+ * Writes: nothing, accepted or refused.
+ * Refusals: 1, 3 and 6 as concordance_check; 19 if the starts break a rule, whatever the kind; 7 if the kind is outside 1 to 5; then by the kind as
+ * concordance_ask. The value of each is 0.
+ */
+concordance_answer concordance_ask_in_documents(concordance_shape shape, const uint32_t *lengths, size_t lengths_len,
+                                                const uint8_t *bytes, size_t bytes_len, const uint32_t *superblocks, size_t superblocks_len,
+                                                const uint16_t *blocks, size_t blocks_len, const uint32_t *starts, size_t starts_len,
+                                                const uint32_t *words, size_t words_len, concordance_question question);
+
+/*
+ * Answers a sheet of questions of an index, each as concordance_ask_in_documents answers it; the check is made and the starts are tried once.
+ * Returns: twice the number of questions. An empty sheet is accepted, writes nothing and returns 0.
+ * Writes: a pair for each question in front of `answers`, in order, as concordance_answer_sheet; the elements past the pairs stay. The refusals 7 to 11
+ * go into the question's own pair, with the value 0, and do not turn down the sheet.
+ * Refusals: 1, 3 and 6 as concordance_check; 19 if the starts break a rule, also for an empty sheet; 12 if `answers` is shorter than two elements for
+ * each question. The value of each is 0. A refused sheet changes nothing.
+ */
+concordance_answer concordance_answer_sheet_in_documents(concordance_shape shape, const uint32_t *lengths, size_t lengths_len,
+                                                         const uint8_t *bytes, size_t bytes_len, const uint32_t *superblocks, size_t superblocks_len,
+                                                         const uint16_t *blocks, size_t blocks_len, const uint32_t *starts, size_t starts_len,
+                                                         const uint32_t *words, size_t words_len, const concordance_question *questions, size_t questions_len,
+                                                         uint32_t *answers, size_t answers_len);
+
+/*
+ * The next page of the listing of a phrase as concordance_list, with document starts: a phrase of one word or more is listed only where all its words lie
+ * in one document. The starts may be others from one accepted page to the next, but a listing is promised to be complete only where all bring the same.
+ * Returns: in `answer` the number of places written; in `more` whether the page is full and another place follows; in `listing` the state for the next
+ * page, as concordance_list gives it.
+ * Writes: the places at or after listing.next where the phrase stands in one document, ascending, in front of `lines`, until it is full or there are no
+ * more; the elements past them stay.
+ * Refusals: 1, 3 and 6 as concordance_check; 19 if the starts break a rule, finished or not; 8 and 9 for the phrase as concordance_ask, kind 5; 11 if
+ * listing.next is above n, finished or not; 12 if `lines` is empty. The value of each is 0; `more` is false, and `listing` is the state that was given.
+ * A refused page changes nothing, and the listing goes on with the next call.
+ */
+concordance_page concordance_list_in_documents(concordance_listing listing, concordance_shape shape, const uint32_t *lengths, size_t lengths_len,
+                                               const uint8_t *bytes, size_t bytes_len, const uint32_t *superblocks, size_t superblocks_len,
+                                               const uint16_t *blocks, size_t blocks_len, const uint32_t *starts, size_t starts_len,
+                                               const uint32_t *words, size_t words_len, size_t start, size_t length, uint32_t *lines, size_t lines_len);
+
+/*
+ * The summary of a phrase, which is the part (start, length) of the lent words: how often it stands in each document, which is how often it stands in the
+ * words of the document by themselves. The counts add up to what concordance_ask_in_documents, kind 5, counts with the same starts.
+ * Returns: the number of documents, which is starts_len. The empty text has none: nothing is written, and 0 is returned.
+ * Writes: the count of each document, in their order, in front of `counts`; the elements past them stay.
+ * Refusals: 1, 3 and 6 as concordance_check; 19 if the starts break a rule; 8 if length is 0 or above 16, or the part does not lie in the lent words
+ * (start + length above words_len, for any two numbers); 9 if a word of the part is not below V; 12 if `counts` is shorter than one element for each
+ * document. The value of each is 0. A refused call changes nothing.
+ */
+concordance_answer concordance_summary(concordance_shape shape, const uint32_t *lengths, size_t lengths_len, const uint8_t *bytes, size_t bytes_len,
+                                       const uint32_t *superblocks, size_t superblocks_len, const uint16_t *blocks, size_t blocks_len,
+                                       const uint32_t *starts, size_t starts_len, const uint32_t *words, size_t words_len, size_t start, size_t length,
+                                       uint32_t *counts, size_t counts_len);
 
 /*
  * Reads plain text of ISO 8859-1 through a word list. A word is a longest run of letters and digits, its capitals made small, by the built-in

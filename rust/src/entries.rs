@@ -1,4 +1,4 @@
-//! The sixteen entries of the archive, over slices and as they are: no slice is made, and the answer is the one that the engine gives.
+//! The twenty entries of the archive, over slices and as they are: no slice is made, and the answer is the one that the engine gives.
 //!
 //! Each call is safe, since an entry asks nothing of its arguments but what a slice always has: it is not null, aligned, initialized and as
 //! long as it says, and one that is written is lent to nobody else.
@@ -113,6 +113,56 @@ pub fn list(
 ) -> RawPage {
     with_arrays!(concordance_list(listing, shape; arrays.as_ptr;
         words.as_ptr(), words.len(), start, length, lines.as_mut_ptr(), lines.len()))
+}
+
+/// Asks one question of an index, with document starts.
+pub fn ask_in_documents(shape: Shape, arrays: Slices, starts: &[u32], words: &[u32], question: Question) -> Answer {
+    with_arrays!(concordance_ask_in_documents(shape; arrays.as_ptr;
+        starts.as_ptr(), starts.len(), words.as_ptr(), words.len(), question))
+}
+
+/// Answers a sheet of questions of an index, with document starts.
+pub fn answer_sheet_in_documents(
+    shape: Shape,
+    arrays: Slices,
+    starts: &[u32],
+    words: &[u32],
+    questions: &[Question],
+    answers: &mut [u32],
+) -> Answer {
+    with_arrays!(concordance_answer_sheet_in_documents(shape; arrays.as_ptr;
+        starts.as_ptr(), starts.len(), words.as_ptr(), words.len(),
+        questions.as_ptr(), questions.len(), answers.as_mut_ptr(), answers.len()))
+}
+
+/// Writes the next page of a listing, with document starts.
+#[allow(clippy::too_many_arguments)] // they are those of the entry
+pub fn list_in_documents(
+    listing: Listing,
+    shape: Shape,
+    arrays: Slices,
+    starts: &[u32],
+    words: &[u32],
+    start: usize,
+    length: usize,
+    lines: &mut [u32],
+) -> RawPage {
+    with_arrays!(concordance_list_in_documents(listing, shape; arrays.as_ptr;
+        starts.as_ptr(), starts.len(), words.as_ptr(), words.len(), start, length, lines.as_mut_ptr(), lines.len()))
+}
+
+/// Counts a phrase, which has a word, in each document.
+pub fn summary(
+    shape: Shape,
+    arrays: Slices,
+    starts: &[u32],
+    words: &[u32],
+    start: usize,
+    length: usize,
+    counts: &mut [u32],
+) -> Answer {
+    with_arrays!(concordance_summary(shape; arrays.as_ptr;
+        starts.as_ptr(), starts.len(), words.as_ptr(), words.len(), start, length, counts.as_mut_ptr(), counts.len()))
 }
 
 /// Reads plain text through a word list.

@@ -1,6 +1,6 @@
 //! The index of a text, as an owned value.
 use crate::entries::{self, Slices, SlicesMut};
-use crate::ffi::{IndexSizes, Question, Shape};
+use crate::ffi::{Answer, IndexSizes, Question, Shape};
 use crate::refusal::{Refusal, Refused};
 use crate::{LONGEST_CODEWORD, MAX_VOCABULARY, MAX_WORDS};
 use std::mem::size_of;
@@ -133,9 +133,9 @@ impl Index {
 
     /// Answers a sheet of questions, in order; the check is made once.
     pub fn answer_sheet(&self, words: &[u32], questions: &[Question]) -> Result<Vec<Result<u32, Refusal>>, Refused> {
-        let mut answers = vec![0; 2 * questions.len()];
-        entries::answer_sheet(self.shape, self.arrays.slices(), words, questions, &mut answers).result()?;
-        Ok(answers.chunks(2).map(|pair| Refusal::from_number(pair[0]).map_or(Ok(pair[1]), Err)).collect())
+        sheet_of(questions, |answers| {
+            entries::answer_sheet(self.shape, self.arrays.slices(), words, questions, answers)
+        })
     }
 
     /// How often a phrase stands in the text. The phrase of no words stands at every place from 0 to n: n + 1 times.
@@ -155,4 +155,14 @@ impl Index {
     pub(crate) fn place_count(&self) -> usize {
         self.words() + 1
     }
+}
+
+/// The answers of a sheet of questions, of the pairs that a call writes for them.
+pub(crate) fn sheet_of(
+    questions: &[Question],
+    answer: impl FnOnce(&mut [u32]) -> Answer,
+) -> Result<Vec<Result<u32, Refusal>>, Refused> {
+    let mut pairs = vec![0; 2 * questions.len()];
+    answer(&mut pairs).result()?;
+    Ok(pairs.chunks(2).map(|pair| Refusal::from_number(pair[0]).map_or(Ok(pair[1]), Err)).collect())
 }

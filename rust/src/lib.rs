@@ -5,7 +5,7 @@
 //! and plain text are read and written by functions of their own. Every refusal of the engine comes
 //! back as a [`Refused`], with the number and the value of the engine's table.
 //!
-//! Nothing here decides an answer: the functions lend slices to the engine and hand on what it says. The module [`entries`] has the sixteen
+//! Nothing here decides an answer: the functions lend slices to the engine and hand on what it says. The module [`entries`] has the twenty
 //! entries themselves, over slices that the caller makes.
 //!
 //! # Memory
@@ -29,11 +29,17 @@
 //! Before anything is typed the phrase has no words: [`read_text`] of an empty text gives it. It stands at every place from 0 to n, so that
 //! [`Index::pages`] lists the places of the text from its beginning, and its last place, n, is the end of the text, where no word follows.
 //!
+//! # Documents
+//!
+//! A text may be made of documents. With the places at which they start, [`Index::in_documents`] gives a [`Documents`], which counts and lists a phrase
+//! only where all its words lie in one document, and a pair of neighbours only where both do. [`Documents::summary`] gives the count of a phrase in each
+//! document; these add up to [`Documents::count`]. Without starts the text is one run from end to end.
+//!
 //! # Stack
 //!
 //! The engine allocates nothing; its tables lie on the stack of the calling thread. As `bench/stack.c` measures it, [`read_text`] and
-//! [`read_text_with`] need 1.5 MB, [`make_list`] and [`make_list_with`] 0.9 MB, building, questions, sheets, passages and pages 265 KB, the
-//! rest less than 4 KB. A thread with Rust's default stack of 2 MB can make every call.
+//! [`read_text_with`] need 1.5 MB, [`make_list`] and [`make_list_with`] 0.9 MB, building, questions, sheets, passages, pages and summaries 265 KB,
+//! the rest less than 4 KB. A thread with Rust's default stack of 2 MB can make every call.
 //!
 //! # What the check says
 //!
@@ -43,6 +49,7 @@
 //!
 //! Each call makes the check again, one pass over the bytes. Many contexts are therefore one sheet of questions of kind 1
 //! ([`Index::answer_sheet`]), not many passages.
+mod documents;
 pub mod entries;
 mod ffi;
 mod index;
@@ -52,6 +59,7 @@ mod refusal;
 mod streams;
 mod word_list;
 
+pub use documents::Documents;
 pub use ffi::{IndexSizes, Listing, Question, Shape};
 pub use index::{Arrays, Index};
 pub use letters::Letters;

@@ -15,6 +15,7 @@ pub struct Page {
 /// a refusal.
 pub struct Pages<'a> {
     index: &'a Index,
+    starts: Option<&'a [u32]>,
     phrase: &'a [u32],
     lines: usize,
     listing: Listing,
@@ -24,11 +25,17 @@ pub struct Pages<'a> {
 impl Index {
     /// The pages of the listing of a phrase, each of at most so many lines. Those of the phrase of no words list every place from 0 to n.
     pub fn pages<'a>(&'a self, phrase: &'a [u32], lines: usize) -> Pages<'a> {
-        Pages { index: self, phrase, lines: lines.min(self.place_count()), listing: entries::open(), ended: false }
+        Pages::open(self, None, phrase, lines)
     }
 }
 
-impl Pages<'_> {
+impl<'a> Pages<'a> {
+    /// The pages of a listing that is opened: with document starts, or without.
+    pub(crate) fn open(index: &'a Index, starts: Option<&'a [u32]>, phrase: &'a [u32], lines: usize) -> Pages<'a> {
+        let lines = lines.min(index.place_count());
+        Pages { index, starts, phrase, lines, listing: entries::open(), ended: false }
+    }
+
     /// The state that the next page takes.
     pub fn listing(&self) -> Listing {
         self.listing
@@ -36,8 +43,14 @@ impl Pages<'_> {
 
     fn page(&mut self) -> Result<Page, Refused> {
         let (shape, arrays) = (self.index.shape(), self.index.arrays().slices());
+        let (phrase, length) = (self.phrase, self.phrase.len());
         let mut places = vec![0; self.lines];
-        let page = entries::list(self.listing, shape, arrays, self.phrase, 0, self.phrase.len(), &mut places);
+        let page = match self.starts {
+            Some(starts) => {
+                entries::list_in_documents(self.listing, shape, arrays, starts, phrase, 0, length, &mut places)
+            }
+            None => entries::list(self.listing, shape, arrays, phrase, 0, length, &mut places),
+        };
         self.listing = page.listing;
         self.ended = !page.more;
         places.truncate(page.answer.result()?);

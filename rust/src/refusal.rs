@@ -23,13 +23,14 @@ pub enum Refusal {
     Sizes,
     ListMaking,
     Table,
+    Documents,
     /// A number that this table lacks, as a later archive may report it.
     Other(u32),
 }
 
 impl Refusal {
     /// The rows in the order of their numbers, from 1 on.
-    const ROWS: [Refusal; 18] = [
+    const ROWS: [Refusal; 19] = [
         Refusal::Vocabulary,
         Refusal::Words,
         Refusal::Blocks,
@@ -48,6 +49,7 @@ impl Refusal {
         Refusal::Sizes,
         Refusal::ListMaking,
         Refusal::Table,
+        Refusal::Documents,
     ];
 
     /// The refusal with a number; none for 0, which says that the call was accepted.
@@ -81,12 +83,15 @@ impl Refusal {
             Refusal::Kind => "kind outside 1 to 5",
             Refusal::Phrase => {
                 "phrase length above 16, or part outside the lent words, an empty one that starts past their end \
-                 included"
+                 included; in a summary, length 0 too"
             }
             Refusal::AskedRank => "a rank asked about is not below V",
             Refusal::Offset => "offset outside -16 to 16",
             Refusal::Place => "place or ordinal outside its range; a listing's next place above n",
-            Refusal::Page => "page of length 0, or answer slice shorter than two per question",
+            Refusal::Page => {
+                "page of length 0, answer slice shorter than two per question, or slice for a summary shorter than one \
+                 per document"
+            }
             Refusal::WordList => {
                 "word list breaks a rule: each word closed by 0A, made only of bytes other than 00 that the letter table \
                  keeps, none empty, none twice"
@@ -100,6 +105,10 @@ impl Refusal {
             Refusal::Table => {
                 "the letter table breaks a rule: 256 entries, each 0 or a byte that the table keeps, entry 0A is 0, some \
                  entry is not 0"
+            }
+            Refusal::Documents => {
+                "the document starts break a rule: the first is 0, each is above the one before it, all are below n, \
+                 there is none only if the text is empty"
             }
             Refusal::Other(_) => "a number that the table of this version lacks",
         }

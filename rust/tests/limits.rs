@@ -174,6 +174,14 @@ fn vocabularies() {
             let state = Listing { next: 3, finished: true };
             let page = entries::list(state, shape, arrays.slices(), &[], 0, 0, &mut []);
             assert_eq!((page.answer.refusal, page.more, page.listing), (refusal, false, state));
+            let starts = [1];
+            let question = Question::word_at(0);
+            assert_eq!(entries::ask_in_documents(shape, arrays.slices(), &starts, &[], question).refusal, refusal);
+            let sheet = entries::answer_sheet_in_documents(shape, arrays.slices(), &starts, &[], &[], &mut []);
+            assert_eq!(sheet.refusal, refusal);
+            let page = entries::list_in_documents(state, shape, arrays.slices(), &starts, &[], 0, 0, &mut []);
+            assert_eq!((page.answer.refusal, page.more, page.listing), (refusal, false, state));
+            assert_eq!(entries::summary(shape, arrays.slices(), &starts, &[], 0, 0, &mut []).refusal, refusal);
         }
     }
 }
@@ -294,16 +302,16 @@ fn absurd_lengths() {
     assert_eq!(pages, [[0, 1, 2, 3, 4]]);
 }
 
-/// The numbers 1 to 18 have a row of the table each, 0 is no refusal, and any other number comes back as itself.
+/// The numbers 1 to 19 have a row of the table each, 0 is no refusal, and any other number comes back as itself.
 #[test]
 fn refusals() {
     assert_eq!(Refusal::from_number(0), None);
-    for number in 1..=18 {
+    for number in 1..=19 {
         let refusal = Refusal::from_number(number).expect("a number above 0 is a refusal");
         assert_eq!(refusal.number(), number);
         assert_ne!(refusal, Refusal::Other(number));
     }
-    for number in [19, u32::MAX] {
+    for number in [20, u32::MAX] {
         assert_eq!(Refusal::from_number(number), Some(Refusal::Other(number)));
         assert_eq!(Refusal::Other(number).number(), number);
     }
@@ -389,6 +397,41 @@ fn most_places() {
     let state = Listing { next: MAX_WORDS + 1, finished: false };
     let page = entries::list(state, index.shape(), index.arrays().slices(), &[], 0, 0, &mut [7]);
     assert_eq!((page.answer, page.more, page.listing), (reference::refused(11), false, state));
+}
+
+/// The longest text in one document, in two, of which the last has one word, in three, and in a document for each word; a start at its end, and one more than there
+/// are words, are refused by 19.
+#[test]
+fn most_documents() {
+    let places = [5, 6, MAX_WORDS / 2, MAX_WORDS - 2, MAX_WORDS - 1];
+    let mut text = vec![0; MAX_WORDS];
+    for place in places {
+        text[place] = 1;
+    }
+    let index = Index::build(Shape::for_text(2), &text).expect("the longest text is one");
+    let last = MAX_WORDS as u32 - 1;
+    for (starts, counts) in [(&[0][..], &[2][..]), (&[0, last], &[1, 0]), (&[0, 6, last - 1], &[0, 0, 1])] {
+        let documents = index.in_documents(starts);
+        assert_eq!(documents.summary(&[1, 1]), Ok(counts.to_vec()), "{starts:?}");
+        assert_eq!(documents.count(&[1, 1]), Ok(counts.iter().sum::<u32>() as usize), "{starts:?}");
+    }
+    let mut starts: Vec<u32> = (0..=last).collect();
+    let documents = index.in_documents(&starts);
+    let counts = documents.summary(&[1]).expect("each word is a document");
+    let found = counts.iter().enumerate().filter(|(_, &count)| count != 0);
+    assert!(found.map(|(place, &count)| (place, count)).eq(places.map(|place| (place, 1))));
+    assert_eq!(counts.len(), MAX_WORDS);
+    let sheet = [Question::phrase(0, 1), Question::phrase(0, 2), Question::phrase(0, 0), Question::neighbours(1, 1, 1)];
+    let answers = [5, 0, MAX_WORDS as u32 + 1, 0].map(Ok);
+    assert_eq!(documents.answer_sheet(&[1, 1], &sheet), Ok(answers.to_vec()));
+    let pages: Vec<_> = documents.pages(&[1], 4).map(|page| page.unwrap().places).collect();
+    assert_eq!(pages, [&[5, 6, last / 2 + 1, last - 1][..], &[last]]);
+
+    let refused = Refused { refusal: Refusal::Documents, value: 0 };
+    starts.push(last + 1);
+    assert_eq!(index.in_documents(&starts).summary(&[1]), Err(refused));
+    assert_eq!(index.in_documents(&[0, last + 1]).summary(&[1]), Err(refused));
+    assert_eq!(index.in_documents(&[0, last, last]).count(&[1]), Err(refused));
 }
 
 /// A list of so many distinct words, of digits and letters.

@@ -1,4 +1,5 @@
-//! Random inputs: texts, shapes, slices for an index, sizes, arrays that are damaged, questions, plain texts, word lists and letter tables.
+//! Random inputs: texts, shapes, slices for an index, sizes, arrays that are damaged, questions, document starts, plain texts, word lists and letter
+//! tables.
 use super::random::Random;
 use super::reference;
 use concordance::{Arrays, IndexSizes, Question, Shape};
@@ -293,6 +294,48 @@ pub fn question(random: &mut Random, vocabulary: usize, text: &[u32], words: &[u
         p: number(random, text),
         start,
         length,
+    }
+}
+
+/// The starts of the documents of a text of so many words: one document, one for each word, or some of few words or of many.
+pub fn starts(random: &mut Random, words: usize) -> Vec<u32> {
+    let times = random.one_of(&[1, 2, 2, 3, 5, 20, usize::MAX]);
+    (0..words as u32).filter(|&place| place == 0 || random.once_in(times)).collect()
+}
+
+/// Starts with one rule broken: the 0 is dropped or another number, one stands twice, two are swapped, one is the number of words, above it or far above,
+/// the last is moved so far that it has the same low bits, or there is none. The empty text is given a start.
+pub fn broken_starts(random: &mut Random, words: usize) -> Vec<u32> {
+    let mut starts = starts(random, words);
+    let n = words as u32;
+    let last = random.one_of(&[n, n, n + 1, n + 256, n + (1 << 16), n + (1 << 24), n + (1 << 31), u32::MAX]);
+    if starts.is_empty() {
+        return vec![last; random.between(1, 3)];
+    }
+    let at = random.below(starts.len());
+    match random.below(9) {
+        0 => drop(starts.remove(0)),
+        1 => starts[0] = random.one_of(&[1, n, u32::MAX]),
+        2 => starts.insert(at, starts[at]),
+        3 if starts.len() > 1 => {
+            let other = (at + random.between(1, starts.len() - 1)) % starts.len();
+            starts.swap(at, other);
+        }
+        4 => starts[at] = last,
+        5 => starts.insert(at + 1, 0),
+        6 => starts.clear(),
+        7 => *starts.last_mut().unwrap() += 1 << random.one_of(&[16, 24, 31]),
+        _ => starts.push(last),
+    }
+    starts
+}
+
+/// Starts that may break a rule, and now and then any numbers about those of the places.
+pub fn any_starts(random: &mut Random, words: usize) -> Vec<u32> {
+    match random.below(10) {
+        0 | 1 => broken_starts(random, words),
+        2 => (0..random.below(4)).map(|_| random.below(words + 2) as u32).collect(),
+        _ => starts(random, words),
     }
 }
 

@@ -286,6 +286,27 @@ fn lent(shape: Shape, arrays: &Arrays) -> Result<Vec<u32>, Answer> {
     text_of(shape, arrays).ok_or(refused(6))
 }
 
+/// The documents of a text, which is cut at the starts and at its end; none where the starts break a rule: then a piece is empty or none at all, or the
+/// pieces are not the whole text.
+pub fn documents(text: &[u32], starts: &[u32]) -> Option<Vec<Vec<u32>>> {
+    let ends = starts.iter().skip(1).map(|&start| start as usize).chain([text.len()]);
+    let cut = |(&start, end): (&u32, usize)| text.get(start as usize..end).map(<[u32]>::to_vec);
+    let pieces: Vec<Vec<u32>> = starts.iter().zip(ends).map(cut).collect::<Option<_>>()?;
+    let some_empty = pieces.iter().any(Vec::is_empty);
+    let whole = pieces.iter().map(Vec::len).sum::<usize>() == text.len();
+    (whole && !some_empty).then_some(pieces)
+}
+
+/// The text of an index that is given to a call without starts, as one piece, or the refusal of the call.
+fn lent_whole(shape: Shape, arrays: &Arrays) -> Result<Vec<Vec<u32>>, Answer> {
+    lent(shape, arrays).map(|text| vec![text])
+}
+
+/// The documents of an index that is given to a call with starts, or the refusal of the call.
+fn lent_documents(shape: Shape, arrays: &Arrays, starts: &[u32]) -> Result<Vec<Vec<u32>>, Answer> {
+    documents(&lent(shape, arrays)?, starts).ok_or(refused(19))
+}
+
 pub fn check(shape: Shape, arrays: &Arrays) -> Answer {
     match lent(shape, arrays) {
         Ok(_) => accepted(0),
@@ -330,9 +351,32 @@ pub fn places(text: &[u32], phrase: &[u32]) -> Vec<usize> {
     (0..=text.len()).filter(|&q| text[q..].starts_with(phrase)).collect()
 }
 
-/// The answer to a question about a text.
-fn answer(vocabulary: usize, text: &[u32], words: &[u32], question: Question) -> Answer {
+/// All places at which a phrase stands in a text of some pieces: where it has no words, those of the whole text; otherwise those of each piece, moved by
+/// the words of the pieces before it.
+pub fn places_in(pieces: &[Vec<u32>], phrase: &[u32]) -> Vec<usize> {
+    if phrase.is_empty() {
+        return places(&pieces.concat(), phrase);
+    }
+    let mut all = Vec::new();
+    let mut before = 0;
+    for piece in pieces {
+        all.extend(places(piece, phrase).iter().map(|place| before + place));
+        before += piece.len();
+    }
+    all
+}
+
+/// The number of places of a text that have w, and v at the offset d from it.
+pub fn neighbours(text: &[u32], w: u32, v: u32, d: i32) -> usize {
+    let at = |q: usize| q as i64 + i64::from(d);
+    let inside = |q: usize| (0..text.len() as i64).contains(&at(q));
+    (0..text.len()).filter(|&q| text[q] == w && inside(q) && text[at(q) as usize] == v).count()
+}
+
+/// The answer to a question about a text of some pieces.
+fn answer(vocabulary: usize, pieces: &[Vec<u32>], words: &[u32], question: Question) -> Answer {
     let Question { kind, w, v, d, p, start, length } = question;
+    let text = pieces.concat();
     let unknown = |rank: u32| rank as usize >= vocabulary;
     match kind {
         1 => match text.get(p) {
@@ -353,14 +397,9 @@ fn answer(vocabulary: usize, text: &[u32], words: &[u32], question: Question) ->
         }
         4 if unknown(w) || unknown(v) => refused(9),
         4 if !(-16..=16).contains(&d) => refused(10),
-        4 => {
-            let at = |q: usize| q as i64 + i64::from(d);
-            let inside = |q: usize| (0..text.len() as i64).contains(&at(q));
-            let pairs = (0..text.len()).filter(|&q| text[q] == w && inside(q) && text[at(q) as usize] == v);
-            accepted(pairs.count())
-        }
+        4 => accepted(pieces.iter().map(|piece| neighbours(piece, w, v, d)).sum()),
         5 => match phrase(vocabulary, words, start, length) {
-            Ok(phrase) => accepted(places(text, phrase).len()),
+            Ok(phrase) => accepted(places_in(pieces, phrase).len()),
             Err(refusal) => refusal,
         },
         _ => refused(7),
@@ -368,26 +407,84 @@ fn answer(vocabulary: usize, text: &[u32], words: &[u32], question: Question) ->
 }
 
 pub fn ask(shape: Shape, arrays: &Arrays, words: &[u32], question: Question) -> Answer {
-    match lent(shape, arrays) {
-        Ok(text) => answer(shape.vocabulary, &text, words, question),
+    match lent_whole(shape, arrays) {
+        Ok(pieces) => answer(shape.vocabulary, &pieces, words, question),
+        Err(refusal) => refusal,
+    }
+}
+
+pub fn ask_in_documents(shape: Shape, arrays: &Arrays, starts: &[u32], words: &[u32], question: Question) -> Answer {
+    match lent_documents(shape, arrays, starts) {
+        Ok(pieces) => answer(shape.vocabulary, &pieces, words, question),
         Err(refusal) => refusal,
     }
 }
 
 pub fn answer_sheet(shape: Shape, arrays: &Arrays, words: &[u32], questions: &[Question], into: &mut [u32]) -> Answer {
-    let text = match lent(shape, arrays) {
-        Ok(text) => text,
-        Err(refusal) => return refusal,
-    };
+    match lent_whole(shape, arrays) {
+        Ok(pieces) => answer_each(shape.vocabulary, &pieces, words, questions, into),
+        Err(refusal) => refusal,
+    }
+}
+
+pub fn answer_sheet_in_documents(
+    shape: Shape,
+    arrays: &Arrays,
+    starts: &[u32],
+    words: &[u32],
+    questions: &[Question],
+    into: &mut [u32],
+) -> Answer {
+    match lent_documents(shape, arrays, starts) {
+        Ok(pieces) => answer_each(shape.vocabulary, &pieces, words, questions, into),
+        Err(refusal) => refusal,
+    }
+}
+
+/// The answers to the questions of a sheet about a text of some pieces.
+fn answer_each(
+    vocabulary: usize,
+    pieces: &[Vec<u32>],
+    words: &[u32],
+    questions: &[Question],
+    into: &mut [u32],
+) -> Answer {
     if into.len() / 2 < questions.len() {
         return refused(12);
     }
     for (question, pair) in questions.iter().zip(into.chunks_mut(2)) {
-        let single = answer(shape.vocabulary, &text, words, *question);
+        let single = answer(vocabulary, pieces, words, *question);
         pair[0] = single.refusal;
         pair[1] = single.value as u32;
     }
     accepted(2 * questions.len())
+}
+
+/// The summary of the phrase that is the part (start, length) of the lent words: in each piece its places.
+pub fn summary(
+    shape: Shape,
+    arrays: &Arrays,
+    starts: &[u32],
+    words: &[u32],
+    (start, length): (usize, usize),
+    counts: &mut [u32],
+) -> Answer {
+    let pieces = match lent_documents(shape, arrays, starts) {
+        Ok(pieces) => pieces,
+        Err(refusal) => return refusal,
+    };
+    let phrase = match phrase(shape.vocabulary, words, start, length) {
+        Ok([]) => return refused(8),
+        Ok(phrase) => phrase,
+        Err(refusal) => return refusal,
+    };
+    if counts.len() < pieces.len() {
+        return refused(12);
+    }
+    for (count, piece) in counts.iter_mut().zip(&pieces) {
+        *count = places(piece, phrase).len() as u32;
+    }
+    accepted(pieces.len())
 }
 
 pub fn passage(shape: Shape, arrays: &Arrays, place: usize, into: &mut [u32]) -> Answer {
@@ -412,16 +509,41 @@ pub fn page(
     length: usize,
     lines: &mut [u32],
 ) -> RawPage {
+    page_of(listing, lent_whole(shape, arrays), phrase(shape.vocabulary, words, start, length), lines)
+}
+
+/// A page of a listing with document starts.
+pub fn page_in_documents(
+    listing: Listing,
+    shape: Shape,
+    arrays: &Arrays,
+    starts: &[u32],
+    words: &[u32],
+    (start, length): (usize, usize),
+    lines: &mut [u32],
+) -> RawPage {
+    let pieces = lent_documents(shape, arrays, starts);
+    page_of(listing, pieces, phrase(shape.vocabulary, words, start, length), lines)
+}
+
+/// A page of the places of a phrase in a text of some pieces, or the refusal of these or of the phrase.
+fn page_of(
+    listing: Listing,
+    pieces: Result<Vec<Vec<u32>>, Answer>,
+    phrase: Result<&[u32], Answer>,
+    lines: &mut [u32],
+) -> RawPage {
     let turned_down = |answer: Answer| RawPage { answer, more: false, listing };
-    let text = match lent(shape, arrays) {
-        Ok(text) => text,
+    let pieces = match pieces {
+        Ok(pieces) => pieces,
         Err(refusal) => return turned_down(refusal),
     };
-    let phrase = match phrase(shape.vocabulary, words, start, length) {
+    let phrase = match phrase {
         Ok(phrase) => phrase,
         Err(refusal) => return turned_down(refusal),
     };
-    if listing.next > text.len() {
+    let n = pieces.concat().len();
+    if listing.next > n {
         return turned_down(refused(11));
     }
     if lines.is_empty() {
@@ -430,13 +552,13 @@ pub fn page(
     if listing.finished {
         return RawPage { answer: accepted(0), more: false, listing };
     }
-    let hits: Vec<usize> = places(&text, phrase).into_iter().filter(|&q| q >= listing.next).collect();
+    let hits: Vec<usize> = places_in(&pieces, phrase).into_iter().filter(|&q| q >= listing.next).collect();
     let written = hits.len().min(lines.len());
     for (line, &hit) in lines.iter_mut().zip(&hits) {
         *line = hit as u32;
     }
     let more = hits.len() > written;
-    let next = if more { hits[written - 1] + 1 } else { text.len() };
+    let next = if more { hits[written - 1] + 1 } else { n };
     RawPage { answer: accepted(written), more, listing: Listing { next, finished: !more } }
 }
 

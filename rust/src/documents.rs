@@ -1,0 +1,60 @@
+//! An index whose text is made of documents.
+use crate::entries;
+use crate::ffi::Question;
+use crate::index::{sheet_of, Index};
+use crate::listing::Pages;
+use crate::refusal::{Refusal, Refused};
+
+/// An index with the places at which the documents of its text start. A pair of neighbours counts only where both words lie in one document, and a
+/// phrase of one word or more only where all its words do; the phrase of no words keeps its places, 0 to n.
+///
+/// Any numbers may be brought. Each call tries the rules of starts, and is refused by [`Refusal::Documents`] where they break one: the first is 0, each is
+/// above the one before it, all are below n, and there is none only if the text is empty.
+#[derive(Clone, Copy, Debug)]
+pub struct Documents<'a> {
+    index: &'a Index,
+    starts: &'a [u32],
+}
+
+impl Index {
+    /// The index with document starts, which its calls bring.
+    pub fn in_documents<'a>(&'a self, starts: &'a [u32]) -> Documents<'a> {
+        Documents { index: self, starts }
+    }
+}
+
+impl<'a> Documents<'a> {
+    /// Answers one question; kind 5 takes its phrase from the lent words.
+    pub fn ask(&self, words: &[u32], question: Question) -> Result<usize, Refused> {
+        let (shape, arrays) = (self.index.shape(), self.index.arrays().slices());
+        entries::ask_in_documents(shape, arrays, self.starts, words, question).result()
+    }
+
+    /// Answers a sheet of questions, in order; the check is made and the starts are tried once.
+    pub fn answer_sheet(&self, words: &[u32], questions: &[Question]) -> Result<Vec<Result<u32, Refusal>>, Refused> {
+        let (shape, arrays) = (self.index.shape(), self.index.arrays().slices());
+        sheet_of(questions, |answers| {
+            entries::answer_sheet_in_documents(shape, arrays, self.starts, words, questions, answers)
+        })
+    }
+
+    /// How often a phrase stands inside a document. The phrase of no words stands at every place from 0 to n: n + 1 times.
+    pub fn count(&self, phrase: &[u32]) -> Result<usize, Refused> {
+        self.ask(phrase, Question::phrase(0, phrase.len()))
+    }
+
+    /// The pages of the listing of a phrase, each of at most so many lines. Those of the phrase of no words list every place from 0 to n.
+    pub fn pages(&self, phrase: &'a [u32], lines: usize) -> Pages<'a> {
+        Pages::open(self.index, Some(self.starts), phrase, lines)
+    }
+
+    /// How often a phrase of one word or more stands in each document. A text has at most as many documents as words: for more starts, which break a
+    /// rule, no longer slice is made.
+    pub fn summary(&self, phrase: &[u32]) -> Result<Vec<u32>, Refused> {
+        let (shape, arrays) = (self.index.shape(), self.index.arrays().slices());
+        let mut counts = vec![0; self.starts.len().min(self.index.words())];
+        let written = entries::summary(shape, arrays, self.starts, phrase, 0, phrase.len(), &mut counts).result()?;
+        counts.truncate(written);
+        Ok(counts)
+    }
+}
