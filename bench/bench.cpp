@@ -10,6 +10,7 @@
 
 #include "../include/concordance.h"
 #include "asked.hpp"
+#include "engine.hpp"
 #include "inverted.hpp"
 #include "measure.hpp"
 #include "text.hpp"
@@ -18,43 +19,6 @@
 // How often each thing is run, by the engine and by the other; the least time counts. An index of another program is built once.
 static const int runs = 9;
 static Table table;
-
-struct Engine {
-    concordance_shape shape;
-    twin::Arrays a;
-
-    concordance_measured measure(const std::vector<uint32_t> &text) const { return concordance_measure(shape, text.data(), text.size()); }
-    concordance_answer build_sized(concordance_sizes sizes, const std::vector<uint32_t> &text) {
-        return concordance_build_sized(shape, sizes, text.data(), text.size(), a.lengths.data(), a.lengths.size(), a.bytes.data(),
-                                       a.bytes.size(), a.superblocks.data(), a.superblocks.size(), a.blocks.data(), a.blocks.size());
-    }
-    concordance_answer build(const std::vector<uint32_t> &text) {
-        return concordance_build(shape, text.data(), text.size(), a.lengths.data(), a.lengths.size(), a.bytes.data(), a.bytes.size(),
-                                 a.superblocks.data(), a.superblocks.size(), a.blocks.data(), a.blocks.size());
-    }
-    concordance_answer check() const {
-        return concordance_check(shape, a.lengths.data(), a.lengths.size(), a.bytes.data(), a.bytes.size(), a.superblocks.data(),
-                                 a.superblocks.size(), a.blocks.data(), a.blocks.size());
-    }
-    concordance_answer ask(const std::vector<uint32_t> &words, concordance_question question) const {
-        return concordance_ask(shape, a.lengths.data(), a.lengths.size(), a.bytes.data(), a.bytes.size(), a.superblocks.data(),
-                               a.superblocks.size(), a.blocks.data(), a.blocks.size(), words.data(), words.size(), question);
-    }
-    concordance_answer sheet(const std::vector<uint32_t> &words, const std::vector<concordance_question> &questions,
-                             std::vector<uint32_t> &answers) const {
-        return concordance_answer_sheet(shape, a.lengths.data(), a.lengths.size(), a.bytes.data(), a.bytes.size(), a.superblocks.data(),
-                                        a.superblocks.size(), a.blocks.data(), a.blocks.size(), words.data(), words.size(),
-                                        questions.data(), questions.size(), answers.data(), answers.size());
-    }
-    concordance_page page(concordance_listing listing, const uint32_t *phrase, size_t m, std::vector<uint32_t> &lines) const {
-        return concordance_list(listing, shape, a.lengths.data(), a.lengths.size(), a.bytes.data(), a.bytes.size(), a.superblocks.data(),
-                                a.superblocks.size(), a.blocks.data(), a.blocks.size(), phrase, m, 0, m, lines.data(), lines.size());
-    }
-    concordance_answer passage(size_t place, std::vector<uint32_t> &into) const {
-        return concordance_passage(shape, a.lengths.data(), a.lengths.size(), a.bytes.data(), a.bytes.size(), a.superblocks.data(),
-                                   a.superblocks.size(), a.blocks.data(), a.blocks.size(), place, into.data(), into.size());
-    }
-};
 
 template <class Index> static uint32_t answer(const Index &index, const concordance_question &q, const Asked &asked) {
     switch (q.kind) {

@@ -29,17 +29,22 @@ class Inverted {
         return sum;
     }
 
-    uint32_t phrase(const uint32_t *phrase, uint32_t m) const {
+    // Visits the places at which a phrase stands, ascending, as long as the visit says to go on.
+    template <class Visit> void places(const uint32_t *phrase, uint32_t m, Visit visit) const {
         uint32_t rare = 0;
         for (uint32_t i = 1; i < m; i++)
             if (words[phrase[i]].count < words[phrase[rare]].count) rare = i;
-        uint32_t count = 0;
         each(words[phrase[rare]], [&](uint32_t place) {
-            if (place < rare) return;
+            if (place < rare) return true;
             bool same = true;
             for (uint32_t i = 0; same && i < m; i++) same = i == rare || has(words[phrase[i]], place - rare + i);
-            count += same;
+            return !same || visit(place - rare);
         });
+    }
+
+    uint32_t phrase(const uint32_t *phrase, uint32_t m) const {
+        uint32_t count = 0;
+        places(phrase, m, [&](uint32_t) { return ++count, true; });
         return count;
     }
 
@@ -49,6 +54,7 @@ class Inverted {
         each(words[w], [&](uint32_t place) {
             const int64_t other = int64_t(place) + d;
             count += other >= 0 && has(words[v], other);
+            return true;
         });
         return count;
     }
@@ -76,12 +82,13 @@ class Inverted {
         return gap | uint32_t(*p++ & 127) << shift;
     }
 
+    // Visits the places of a word, ascending, as long as the visit says to go on.
     template <class Visit> static void each(const Posting &p, Visit visit) {
         const uint8_t *at = p.gaps.data();
         uint32_t place = 0;
         for (uint32_t i = 0; i < p.count; i++) {
             place = i % sampled == 0 ? p.samples[i / sampled].place : place + get(at);
-            visit(place);
+            if (!visit(place)) return;
         }
     }
 

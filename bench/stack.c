@@ -12,11 +12,11 @@
 #include <stdlib.h>
 #include <string.h>
 
-enum { VOCABULARY = 2113664, LISTED = 200000, WORDS = 20000, NODES = (VOCABULARY + 127) / 128, BLOCK = 256, PER_SUPERBLOCK = 8, STACK = 4 << 20 };
+enum { VOCABULARY = 2113664, LISTED = 200000, WORDS = 20000, DOCUMENTS = 2000, NODES = (VOCABULARY + 127) / 128, BLOCK = 256, PER_SUPERBLOCK = 8, STACK = 4 << 20 };
 enum { MOST_BYTES = 3 * WORDS, SUPERBLOCKS = 256 * (MOST_BYTES / (BLOCK * PER_SUPERBLOCK) + 1), BLOCKS = 256 * (MOST_BYTES / BLOCK + 1) };
 
 static const concordance_shape shape = {VOCABULARY, BLOCK, PER_SUPERBLOCK};
-static uint32_t text[WORDS], lengths[NODES], superblocks[SUPERBLOCKS], into[WORDS];
+static uint32_t text[WORDS], lengths[NODES], superblocks[SUPERBLOCKS], starts[DOCUMENTS], into[WORDS];
 static uint16_t blocks[BLOCKS];
 static uint8_t bytes[MOST_BYTES], stream[MOST_BYTES];
 static char list[LISTED * 8], plain[WORDS * 9], sample[CONCORDANCE_MAX_LIST_TEXT];
@@ -58,6 +58,16 @@ static void ask(void) {
     for (size_t i = 0; i < 5; i++) must(concordance_ask(shape, INDEX, text, 16, questions[i]));
 }
 static void answer_sheet(void) { must(concordance_answer_sheet(shape, INDEX, text, 16, questions, 5, into, 10)); }
+static void ask_in_documents(void) {
+    for (size_t i = 0; i < 5; i++) must(concordance_ask_in_documents(shape, INDEX, starts, DOCUMENTS, text, 16, questions[i]));
+}
+static void answer_sheet_in_documents(void) {
+    must(concordance_answer_sheet_in_documents(shape, INDEX, starts, DOCUMENTS, text, 16, questions, 5, into, 10));
+}
+static void list_page_in_documents(void) {
+    must(concordance_list_in_documents(concordance_open(), shape, INDEX, starts, DOCUMENTS, text, 16, 0, 2, into, 3).answer);
+}
+static void summary(void) { must(concordance_summary(shape, INDEX, starts, DOCUMENTS, text, 16, 0, 2, into, WORDS)); }
 
 /* A call to make, the stack to make it on, and the address in that stack from which the call's part is counted. */
 struct run {
@@ -90,10 +100,11 @@ static size_t needed(void (*call)(void)) {
     return bytes_needed;
 }
 
-/* A text with words of one, two and three bytes, its index, a word list of several parts, a plain text, one that a list is made of, and a letter
-   table. */
+/* A text with words of one, two and three bytes, its index and document starts, a word list of several parts, a plain text, one that a list is made
+   of, and a letter table. */
 static void prepare(void) {
     for (uint32_t i = 0; i < WORDS; i++) text[i] = i % 3 == 0 ? i % 100 : i % 3 == 1 ? i % 16000 : i * 7919u % VOCABULARY;
+    for (uint32_t i = 0; i < DOCUMENTS; i++) starts[i] = i * (WORDS / DOCUMENTS);
     char *end = list;
     for (int i = 0; i < LISTED; i++) end += sprintf(end, "w%d\n", i);
     end = plain;
@@ -112,7 +123,9 @@ int main(void) {
         void (*call)(void);
     } entries[] = {{"write_stream", write_stream}, {"read_stream", read_stream}, {"measure", measure}, {"build_sized", build_sized},
                    {"build", build}, {"check", check}, {"ask", ask}, {"answer_sheet", answer_sheet}, {"passage", passage},
-                   {"open", open_listing}, {"list", list_page}, {"read_text", read_text},
+                   {"open", open_listing}, {"list", list_page}, {"ask_in_documents", ask_in_documents},
+                   {"answer_sheet_in_documents", answer_sheet_in_documents}, {"list_in_documents", list_page_in_documents},
+                   {"summary", summary}, {"read_text", read_text},
                    {"make_list", make_list}, {"check_letters", check_letters}, {"read_text_with", read_text_with},
                    {"make_list_with", make_list_with}};
     prepare();
