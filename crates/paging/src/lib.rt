@@ -1,5 +1,5 @@
-// A page of the places at which a phrase stands inside one document: a short loop over the search for the next hit, and
-// one over all places for the phrase of no words.
+// A page of the places at which a phrase stands inside one document: a short loop over the search
+// for the next hit, and one over all places for the phrase of no words.
 //
 // No function of this crate is an entry: `fill_page` and `write_page` require that the four slices
 // have passed the check, and `starts` is the table that `starts::node_starts` fills.

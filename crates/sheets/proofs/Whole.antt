@@ -1,20 +1,25 @@
--- A sheet that brings no document starts takes them from the length of the root: one, or none for the empty text. Assumes nothing.
-use Prim.Native.Nat.{ℕ}
+-- A sheet without document starts is answered of the whole text. Its starts are taken from the length of the root: one, or none for the empty text. Assumes nothing.
+use Prim.Native.Nat.{ℕ, _*_}
 use mathlib.Core.Path.{_≡_, sym, ap, _∙_}
 use mathlib.Core.Logic.{_⊎_, inl, inr}
-use mathlib.Core.List.{List}
+use mathlib.Core.List.{List, [], _∷_}
 use borrow.Author.Tests.{ne-eqb}
 use lib.ListN.{length, getD}
-use Rattle.base.specs.Answers.{isAccepted}
+use Rattle.base.specs.declared.Answer.{Answer}
+use Rattle.base.specs.Answers.{accepted, isAccepted, Case, firstOf}
+use Rattle.base.proofs.Answers.{first-append}
 use Rattle.dense.specs.Code.{Closing}
 use Rattle.index.specs.declared.Shape.{Shape}
 use Rattle.index.specs.Arrays.{Arrays, textIn}
-use Rattle.index.specs.Entries.{checkAnswer}
+use Rattle.index.specs.Entries.{indexCases, checkAnswer}
 use Rattle.documents.specs.Documents.{oneStart}
-use Rattle.questions.proofs.Checks.{start-or-refused}
 use Rattle.questions.specs.declared.Question.{Question}
-use Rattle.sheets.specs.Sheets.{sheetAnswer, sheetExit}
+use Rattle.questions.specs.Answering.{readingCases, askAnswer}
+use Rattle.questions.proofs.Checks.{reading-whole, start-or-refused}
+use Rattle.sheets.specs.Sheets.{roomCase, sheetCases, sheetAnswer, sheetExit}
+use Rattle.sheets.specs.WithoutStarts.{SheetsWithoutStarts}
 use Rattle.sheets.proofs.Tested.{sheet-index, sheet-untouched}
+use Rattle.sheets.proofs.Singles.{sheets-equal-singles}
 
 module _ (s : ℕ) (within : Closing s) (shape : Shape) (a : Arrays) where
   -- the starts by the length of the root, and by the number of words
@@ -46,3 +51,15 @@ module _ (s : ℕ) (within : Closing s) (shape : Shape) (a : Arrays) where
         sheet-index s shape a byRoot (length qs) (length z) h ∙ sym (sheet-index s shape a byText (length qs) (length z) h),
         refused-leaves byRoot words qs z h ∙ sym (refused-leaves byText words qs z h),
       )
+
+-- the starts turn nothing down, and the pairs are the single ones
+pub sheets-without-starts : SheetsWithoutStarts
+unfolding sheetAnswer sheetCases askAnswer
+sheets-without-starts s shape a words qs z =
+    let one : List ℕ = oneStart (length (textIn s a)) in
+    let room : List Case = roomCase (length qs) (length z) ∷ [] in
+    let done : Answer = accepted (2 * length qs) in
+    record {
+      byTheIndex = first-append (readingCases s shape a one) room done ∙ reading-whole s shape a (firstOf room done) ∙ sym (first-append (indexCases s shape a) room done);
+      singles = λ e. sheets-equal-singles s shape a one words qs z .pairs e;
+    }
