@@ -1,16 +1,12 @@
 // The answers to questions about an index that has passed the check, kind by kind.
 //
 // No function of this crate is an entry: each requires what its callers have tested.
-ghost use Prim.Native.Nat.{ℕ, _≤_};
 ghost use mathlib.Core.Path.{_≡_};
 ghost use mathlib.Core.Bool.{true};
-ghost use mathlib.Core.List.{List};
-ghost use lib.ListN.{length};
-ghost use Rattle.base.specs.Texts.{maxWords};
 ghost use Rattle.index.specs.Arrays.{Arrays, arrays, textIn};
 ghost use Rattle.words.specs.Ready.{Ready};
 ghost use Rattle.documents.specs.Documents.{isAscending};
-ghost use Rattle.questions.specs.Answering.{phraseRefusal, wordAtAnswer, occurrencesAnswer, placeAnswer, neighboursAnswer, phraseAnswer, questionAnswer};
+ghost use Rattle.questions.specs.Answering.{wordAtAnswer, occurrencesAnswer, placeAnswer, neighboursAnswer, phraseAnswer, questionAnswer};
 use base::Answer;
 use base::refusal;
 use index::Shape;
@@ -187,41 +183,6 @@ fn answer_neighbours(
     ))
 }
 
-// The number of the refusal of a phrase, 8 or 9; 0 where its part lies in the lent words, has up to
-// 16 of them, and all are below the vocabulary's size. One of no words lies in them if it starts
-// among them or at their end.
-pub fn phrase_refusal(vocabulary: usize, words: &[u32], start: usize, count: usize) -> u32
-    ensures { λ r. ⌜ r ≡ phraseRefusal vocabulary (now (words .entry)) start count ⌝ }
-{
-    if Question::MAX_PHRASE < count {
-        return refusal::PHRASE;
-    }
-    if words.len() < start {
-        return refusal::PHRASE;
-    }
-    if words.len() - start < count {
-        return refusal::PHRASE;
-    }
-    let end = start + count;
-    let place = base::first_outside(&words[start..end], vocabulary);
-    if place < count {
-        return refusal::ASKED_RANK;
-    }
-    0
-}
-
-// Kind 5 of a phrase of no words, in a text of n words: it stands at every place from 0 to n, if it
-// starts among the lent words or at their end.
-pub fn answer_no_words(words: &[u32], start: usize, n: usize) -> Answer
-    requires { ⌜ n ≤ maxWords ⌝ }
-    ensures { λ r. ⌜ ((vocab : ℕ) (t documents : List ℕ) → length t ≡ n → r ≡ phraseAnswer vocab t documents (now (words .entry)) start 0) ⌝ }
-{
-    if start <= words.len() {
-        return Answer::accepted(n + 1);
-    }
-    Answer::refused(refusal::PHRASE)
-}
-
 // Kind 5: how often a phrase stands inside one document.
 fn answer_phrase(
     s: usize,
@@ -242,9 +203,9 @@ fn answer_phrase(
     ensures { λ a r. ⌜ r ≡ phraseAnswer (shape .vocabulary) (textIn s a) (now (documents .entry)) (now (words .entry)) start count ⌝ }
 {
     if count == 0 {
-        return answer_no_words(words, start, words::text_length(lengths));
+        return phrase_checks::answer_no_words(words, start, words::text_length(lengths));
     }
-    let refused = phrase_refusal(shape.vocabulary, words, start, count);
+    let refused = phrase_checks::phrase_refusal(shape.vocabulary, words, start, count);
     if refused != 0 {
         return Answer::refused(refused);
     }

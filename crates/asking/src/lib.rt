@@ -41,7 +41,7 @@ pub fn ask_in_documents_of(
     }
     if question.kind == 5 && question.length == 0 {
         let n = words::text_length(lengths);
-        return answering::answer_no_words(words, question.start, n);
+        return phrase_checks::answer_no_words(words, question.start, n);
     }
     let mut starts = [0u32; starts::MAX_STARTS];
     starts::node_starts(lengths, &mut starts);

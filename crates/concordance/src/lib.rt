@@ -19,7 +19,7 @@ ghost use Rattle.lexicon.specs.Reading.{readTextAnswer, readTextExit};
 ghost use Rattle.list_calls.specs.Making.{listMade, makeListExit, makeRanksExit};
 ghost use Rattle.lexicon.specs.Tables.{tableAnswer};
 ghost use Rattle.lent_tables.specs.Calls.{readTextWithAnswer, readTextWithExit, listMadeWith, makeListWithExit, makeRanksWithExit};
-ghost use Rattle.sheets.specs.Sheets.{sheetAnswer, sheetExit};
+ghost use Rattle.sheet_calls.specs.Sheets.{sheetAnswer, sheetExit};
 use base::Answer;
 use index::Shape;
 use list_calls::ListMade;

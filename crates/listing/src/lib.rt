@@ -134,7 +134,7 @@ fn request_answer(
 ) -> Answer
     ensures { λ r. ⌜ r ≡ requestAnswer vocabulary (now (words .entry)) start count n next room ⌝ }
 {
-    let refused = answering::phrase_refusal(vocabulary, words, start, count);
+    let refused = phrase_checks::phrase_refusal(vocabulary, words, start, count);
     if refused != 0 {
         return Answer::refused(refused);
     }

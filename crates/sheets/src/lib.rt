@@ -11,7 +11,7 @@ ghost use Rattle.starts.specs.Starts.{maxStarts, NodeStarts};
 ghost use Rattle.words.specs.Ready.{Ready};
 ghost use Rattle.documents.specs.Documents.{isAscending};
 ghost use Rattle.questions.specs.Answering.{questionAnswer};
-ghost use Rattle.sheets.specs.Sheets.{pairOf, sheetAnswer};
+ghost use Rattle.sheet_calls.specs.Sheets.{pairOf, sheetAnswer};
 use base::Answer;
 use base::refusal;
 use index::Shape;

@@ -31,7 +31,7 @@ fn summary_request(
     if count == 0 {
         return Answer::refused(refusal::PHRASE);
     }
-    let refused = answering::phrase_refusal(vocabulary, words, start, count);
+    let refused = phrase_checks::phrase_refusal(vocabulary, words, start, count);
     if refused != 0 {
         return Answer::refused(refused);
     }

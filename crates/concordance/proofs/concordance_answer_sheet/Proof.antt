@@ -55,8 +55,8 @@ use Rattle.base.proofs.Answer.Laws as An′
 use Rattle.index.proofs.Shape as S
 use Rattle.index.proofs.Shape.Laws as S′
 use Rattle.questions.proofs.Question as Q
-use Rattle.sheets.specs.Sheets.{sheetAnswer, sheetExit}
-use Rattle.sheets.proofs.Whole.{sheet-whole}
+use Rattle.sheet_calls.specs.Sheets.{sheetAnswer, sheetExit}
+use Rattle.sheet_calls.proofs.Whole.{sheet-whole}
 use Rattle.concordance.proofs.Published.{closing-128}
 use Rattle.concordance.proofs.Table.{zeros-typed, lends-zeros-shared, shared-room}
 use Rattle.documents.proofs.one_start as one-start

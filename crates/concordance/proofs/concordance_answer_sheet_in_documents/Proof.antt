@@ -74,12 +74,12 @@ use Rattle.index.proofs.Shape as S
 use Rattle.index.proofs.Shape.Laws as S′
 use Rattle.questions.proofs.Question as Q
 use Rattle.questions.proofs.Question.Laws as Q′
-use Rattle.sheets.specs.Sheets.{pairOf, sheetAnswer, sheetExit}
+use Rattle.sheet_calls.specs.Sheets.{pairOf, sheetAnswer, sheetExit}
 use Rattle.concordance.proofs.Again.{LentAgain, lends-again, comes-back}
 use Rattle.concordance.proofs.Published.{closing-128}
 use Rattle.concordance.proofs.Table.{zeros-typed, lends-zeros, lends-shared, array-room, shared-room}
 use Rattle.concordance.proofs.Rules.{large, tests, guards}
-use Rattle.sheets.proofs.Tested.{sheet-clear, sheet-filled, sheet-untouched, after as after-questions, after-none, after-next, after-all, after-length}
+use Rattle.sheet_calls.proofs.Tested.{sheet-clear, sheet-filled, sheet-untouched, after as after-questions, after-none, after-next, after-all, after-length}
 use Rattle.sheets.proofs.prepare as prepare
 use Rattle.sheets.proofs.prepare.Symbol as prepare-def
 use Rattle.sheets.proofs.prepare.Symbol.{name as #prepare}

@@ -8,9 +8,9 @@ use Rattle.base.specs.declared.Answer.{Answer}
 use Rattle.base.specs.Answers.{written}
 use Rattle.base.specs.Texts.{maxWords}
 use Rattle.index.specs.Arrays.{arrays}
-use Rattle.sheets.specs.Sheets.{pairOf}
-use Rattle.sheets.proofs.Values.{value-most}
-use Rattle.sheets.proofs.Tested.{pair-written}
+use Rattle.sheet_calls.specs.Sheets.{pairOf}
+use Rattle.sheet_calls.proofs.Values.{value-most}
+use Rattle.sheet_calls.proofs.Tested.{pair-written}
 use Rattle.sheets.proofs.answer_next.Statement.{statement}
 use Rattle.sheets.proofs.answer_next.Tie as tie
 

@@ -14,7 +14,7 @@ use Rattle.words.proofs.Parts.{accepted-checked, checked-most, checked-total}
 use Rattle.documents.specs.Documents.{areStarts}
 use Rattle.documents.proofs.Starts.{starts-are}
 use Rattle.questions.proofs.Checks.{check-in-clear}
-use Rattle.sheets.proofs.Tested.{sheet-checked, sheet-short, sheet-accepted}
+use Rattle.sheet_calls.proofs.Tested.{sheet-checked, sheet-short, sheet-accepted}
 use Rattle.sheets.proofs.prepare.Statement.{statement}
 use Rattle.sheets.proofs.prepare.Tie as tie
 

@@ -16,10 +16,10 @@ use Rattle.documents.specs.Documents.{oneStart}
 use Rattle.questions.specs.declared.Question.{Question}
 use Rattle.questions.specs.Answering.{readingCases, askAnswer}
 use Rattle.questions.proofs.Checks.{reading-whole, start-or-refused}
-use Rattle.sheets.specs.Sheets.{roomCase, sheetCases, sheetAnswer, sheetExit}
-use Rattle.sheets.specs.WithoutStarts.{SheetsWithoutStarts}
-use Rattle.sheets.proofs.Tested.{sheet-index, sheet-untouched}
-use Rattle.sheets.proofs.Singles.{sheets-equal-singles}
+use Rattle.sheet_calls.specs.Sheets.{roomCase, sheetCases, sheetAnswer, sheetExit}
+use Rattle.sheet_calls.specs.WithoutStarts.{SheetsWithoutStarts}
+use Rattle.sheet_calls.proofs.Tested.{sheet-index, sheet-untouched}
+use Rattle.sheet_calls.proofs.Singles.{sheets-equal-singles}
 
 module _ (s : ℕ) (within : Closing s) (shape : Shape) (a : Arrays) where
   -- the starts by the length of the root, and by the number of words

@@ -1,12 +1,12 @@
--- `answering::phrase_refusal` meets its contract: the length is tested, then the part, then each of its words. Assumes nothing.
+-- `phrase_checks::phrase_refusal` meets its contract: the length is tested, then the part, then each of its words. Assumes nothing.
 use Prim.Native.Nat.{_+_, _-_, _≤_}
 use mathlib.Core.Path.{_≡_, sym}
 use native.Mathlib.Omega.{arith}
 use borrow.Author.Needs.{needs}
 use lib.ListN.{length}
 use Rattle.questions.proofs.Answered.{phrase-long, phrase-past, phrase-rank, phrase-none, part-outside, part-below}
-use Rattle.answering.proofs.phrase_refusal.Statement.{statement}
-use Rattle.answering.proofs.phrase_refusal.Tie as tie
+use Rattle.phrase_checks.proofs.phrase_refusal.Statement.{statement}
+use Rattle.phrase_checks.proofs.phrase_refusal.Tie as tie
 
 returns : tie.Need-returns
 returns c =

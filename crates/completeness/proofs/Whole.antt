@@ -29,11 +29,11 @@ use Rattle.questions.specs.declared.Question.{Question}
 use Rattle.questions.specs.Answering.{askAnswerIn, questionAnswer, phraseAnswer, phraseIn, phraseCases}
 use Rattle.questions.specs.Passages.{passageAnswer, passageExit}
 use Rattle.questions.proofs.Read.{ask-in-passed, passage-accepted, passage-filled}
 use Rattle.listing.specs.declared.Listing.{Listing}
 use Rattle.listing.specs.Paging.{opened, Call, callText, callPhrase, pageOf}
-use Rattle.listing.specs.Completeness.{outcomeOf, foundBy, IsPart, Brings, isPage, resultAfter, Complete, ListingComplete, NextWithin}
-use Rattle.listing.proofs.Calls.{own-page, phrase-tests, call-accepted}
+use Rattle.completeness.specs.Completeness.{outcomeOf, foundBy, IsPart, Brings, isPage, resultAfter, Complete, ListingComplete, NextWithin}
+use Rattle.completeness.proofs.Calls.{own-page, phrase-tests, call-accepted}
 use Rattle.listing.proofs.Paged.{accepted-call}
 
 -- a state, of its two fields
 abbrev stateOf : ℕ → Bool → Listing

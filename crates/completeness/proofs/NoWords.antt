@@ -15,11 +15,11 @@ use Rattle.pages.specs.Hits.{hitsFrom, lastOr}
 use Rattle.pages.specs.Pages.{HitPage}
 use Rattle.pages.proofs.Pages.{fullPage, endPage, page-full, page-last}
 use Rattle.questions.specs.Answering.{phraseIn}
 use Rattle.listing.specs.declared.Listing.{Listing}
 use Rattle.listing.specs.Paging.{Call, callText, callPhrase, callPage, pageAnswer, pageOf}
-use Rattle.listing.specs.NoWords.{placesPage, NoWordsListed}
-use Rattle.listing.proofs.Calls.{own-page}
+use Rattle.completeness.specs.NoWords.{placesPage, NoWordsListed}
+use Rattle.completeness.proofs.Calls.{own-page}
 use Rattle.listing.proofs.Paged.{accepted-call, page-accepted}
 
 -- the last of some numbers from a on
 last-range : (d a k : ℕ) → lastOr d (rangeFrom a (suc k)) ≡ a + k

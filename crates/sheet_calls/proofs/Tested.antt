@@ -23,7 +23,7 @@ use Rattle.documents.specs.Documents.{areStarts, documentsCase}
 use Rattle.questions.specs.declared.Question.{Question}
 use Rattle.questions.specs.Answering.{readingCases, checkAnswerIn, questionAnswer}
 use Rattle.questions.proofs.Checks.{reading-tests, reading-passed, reading-index, reading-refused}
-use Rattle.sheets.specs.Sheets.{pairOf, pairsOf, roomCase, sheetCases, sheetAnswer, sheetExit}
+use Rattle.sheet_calls.specs.Sheets.{pairOf, pairsOf, roomCase, sheetCases, sheetAnswer, sheetExit}
 
 -- a slice that is too short, and one that is not
 short-room : (asked room : ℕ) (answer : Answer) → room < 2 * asked → firstOf (roomCase asked room ∷ []) answer ≡ refused refusalPage

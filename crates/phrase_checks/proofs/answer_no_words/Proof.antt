@@ -1,11 +1,11 @@
--- `answering::answer_no_words` meets its contract: only where the part starts is tested. Assumes nothing.
+-- `phrase_checks::answer_no_words` meets its contract: only where the part starts is tested. Assumes nothing.
 use mathlib.Core.Path.{refl, sym, ap, _∙_}
 use native.Mathlib.Omega.{arith}
 use borrow.Author.Needs.{needs}
 use Rattle.base.specs.Answers.{accepted}
 use Rattle.questions.proofs.NoWords.{no-words-counted, no-words-past}
-use Rattle.answering.proofs.answer_no_words.Statement.{statement}
-use Rattle.answering.proofs.answer_no_words.Tie as tie
+use Rattle.phrase_checks.proofs.answer_no_words.Statement.{statement}
+use Rattle.phrase_checks.proofs.answer_no_words.Tie as tie
 
 add-accepted : tie.Need-add-accepted
 add-accepted c = search needs

@@ -16,9 +16,9 @@ use Rattle.documents.specs.Documents.{areStarts}
 use Rattle.questions.specs.declared.Question.{Question}
 use Rattle.questions.specs.Answering.{questionAnswer, askAnswerIn}
 use Rattle.questions.proofs.Read.{ask-in-passed}
-use Rattle.sheets.specs.Sheets.{pairsOf, sheetAnswer, sheetExit, HasPair, SheetsEqualSingles}
-use Rattle.sheets.proofs.Values.{has-pair}
-use Rattle.sheets.proofs.Tested.{sheet-clear, sheet-accepted, sheet-filled, sheet-untouched}
+use Rattle.sheet_calls.specs.Sheets.{pairsOf, sheetAnswer, sheetExit, HasPair, SheetsEqualSingles}
+use Rattle.sheet_calls.proofs.Values.{has-pair}
+use Rattle.sheet_calls.proofs.Tested.{sheet-clear, sheet-accepted, sheet-filled, sheet-untouched}
 
 -- the pair of an answer stands at twice the number of those before it, whatever stands after it
 pair-at : (rs : List Answer) (r : Answer) (us : List Answer) (rest : List ℕ)

@@ -11,7 +11,7 @@ use Rattle.index.specs.Entries.{indexCases}
 use Rattle.documents.specs.Documents.{oneStart}
 use Rattle.questions.specs.declared.Question.{Question}
 use Rattle.questions.specs.Answering.{askAnswer}
-use Rattle.sheets.specs.Sheets.{pairsOf, roomCase, sheetAnswer, sheetExit}
+use Rattle.sheet_calls.specs.Sheets.{pairsOf, roomCase, sheetAnswer, sheetExit}
 
 -- what the sheet qs without document starts comes to, over a slice that holds z
 pub record SheetWhole (s : ℕ) (shape : Shape) (a : Arrays) (words : List ℕ) (qs : List Question) (z : List ℕ) : Type 0 where

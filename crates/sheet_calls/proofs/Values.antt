@@ -26,7 +26,7 @@ use Rattle.words.specs.Words.{rankAt, occurrencesBelow, frequency, nthPlace}
 use Rattle.documents.specs.Documents.{standsIn, placesIn, neighbourIn, neighboursIn}
 use Rattle.questions.specs.declared.Question.{Question}
 use Rattle.questions.specs.Answering.{rankAskedCase, phraseIn, phraseCases, wordAtAnswer, occurrencesAnswer, placeAnswer, neighboursAnswer, phraseAnswer, questionAnswer}
-use Rattle.sheets.specs.Sheets.{HasPair}
+use Rattle.sheet_calls.specs.Sheets.{HasPair}
 
 module _ (P : Answer → Type 0) where
   -- what holds of both sides of a choice holds of the choice

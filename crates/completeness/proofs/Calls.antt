@@ -21,10 +21,10 @@ use Rattle.documents.specs.Documents.{areStarts, standsIn}
 use Rattle.pages.specs.Runs.{IsPage}
 use Rattle.questions.specs.Answering.{phraseIn, phraseCases, phraseRefusal, rankAskedCase}
 use Rattle.questions.proofs.Checks.{check-in-passed}
 use Rattle.listing.specs.declared.Listing.{Listing}
 use Rattle.listing.specs.Paging.{Call, callText, callPhrase, callPage, pageAnswer, pageOf}
-use Rattle.listing.specs.Completeness.{outcomeOf, IsPart, Brings}
+use Rattle.completeness.specs.Completeness.{outcomeOf, IsPart, Brings}
 use Rattle.listing.proofs.Paged.{request-none, accepted-call, taken}
 
 -- an accepted call is a page over the places of its own text
 pub own-page : (call : Call) (state : Listing) → isAccepted (pageAnswer call state) ≡ true
