@@ -94,7 +94,7 @@ int main(int count, char **arguments) {
         second.index(text);
         std::printf("the first index: %s; the second: %s\n", first.space().c_str(), second.space().c_str());
         const Asked asked = questions(text, 7);
-        for (int kind = 3; kind <= 5; kind++)
+        for (int kind = 1; kind <= 5; kind++)
             in_both(words, sheet_of(kind, asked), first, second, [&](const Archive &archive) { return archive.sheet(asked, kind); });
         in_both(words, page_of(page_lines), first, second, [&](const Archive &archive) { return archive.page(asked.listed()); });
     }
