@@ -43,6 +43,10 @@ static void list_page(void) { must(concordance_list(concordance_open(), shape, I
 static void read_text(void) {
     must(concordance_read_text((const uint8_t *)list, strlen(list), (const uint8_t *)plain, strlen(plain), into, WORDS));
 }
+static void find_word(void) { must(concordance_find_word((const uint8_t *)list, strlen(list), (const uint8_t *)"no", 2)); }
+static void find_word_with(void) {
+    must(concordance_find_word_with(letters, sizeof letters, (const uint8_t *)list, strlen(list), (const uint8_t *)"no", 2));
+}
 static void make_list(void) { must(concordance_make_list((const uint8_t *)sample, strlen(sample), made, sizeof made, into, WORDS).answer); }
 static void check_letters(void) { must(concordance_check_letters(letters, sizeof letters)); }
 static void read_text_with(void) {
@@ -125,9 +129,9 @@ int main(void) {
                    {"build", build}, {"check", check}, {"ask", ask}, {"answer_sheet", answer_sheet}, {"passage", passage},
                    {"open", open_listing}, {"list", list_page}, {"ask_in_documents", ask_in_documents},
                    {"answer_sheet_in_documents", answer_sheet_in_documents}, {"list_in_documents", list_page_in_documents},
-                   {"summary", summary}, {"read_text", read_text},
+                   {"summary", summary}, {"read_text", read_text}, {"find_word", find_word},
                    {"make_list", make_list}, {"check_letters", check_letters}, {"read_text_with", read_text_with},
-                   {"make_list_with", make_list_with}};
+                   {"find_word_with", find_word_with}, {"make_list_with", make_list_with}};
     prepare();
     for (size_t i = 0; i < sizeof entries / sizeof entries[0]; i++) {
         printf("%s: %zu bytes\n", entries[i].name, needed(entries[i].call));

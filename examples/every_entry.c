@@ -1,4 +1,4 @@
-/* Calls each of the twenty entries on a small text, the sample of the scope paper, and shows a refusal of each entry that has one to teach. */
+/* Calls each of the twenty-two entries on a small text, the sample of the scope paper, and shows a refusal of each entry that has one to teach. */
 #include "concordance.h"
 
 #include <stdio.h>
@@ -224,7 +224,48 @@ static void plain_text(void) {
     show("read_text, an unclosed list", concordance_read_text((const uint8_t *)list, strlen(list) - 1, (const uint8_t *)plain, strlen(plain), ranks, 3));
 }
 
-/* Entry 17: the word list of a plain text that comes without one, and the text's ranks by it. */
+static concordance_answer find(const char *list, size_t list_len, const char *spelling) {
+    return concordance_find_word((const uint8_t *)list, list_len, (const uint8_t *)spelling, strlen(spelling));
+}
+
+/* Entry 17: the rank of a spelled word in the list w0 to w129, and V, which is 130, where the list lacks it. The index has the V of the list, so that these
+   ranks can be asked about: the absent word stands nowhere, and only a rank above V is refused. */
+static void absent_words(void) {
+    char list[VOCABULARY * 5 + 1];
+    size_t list_len = 0;
+    for (int rank = 0; rank < VOCABULARY; rank++) list_len += (size_t)sprintf(list + list_len, "w%d\n", rank);
+    const concordance_answer found = find(list, list_len, "W128"), absent = find(list, list_len, "Owl");
+    show("find_word, W128", found);
+    show("find_word, Owl", absent);
+    show("find_word, w128 and a line end", find(list, list_len, "w128\n"));
+    show("find_word, an empty spelling", find(list, list_len, ""));
+    show("find_word, an unclosed list", find(list, list_len - 1, "w128"));
+
+    const uint32_t w128 = (uint32_t)found.value, owl = (uint32_t)absent.value, words[3] = {w128, owl, owl + 1};
+    const concordance_question phrase = {.kind = 5, .start = 0, .length = 2}, above = {.kind = 5, .start = 0, .length = 3};
+    show("ask, w128 owl", concordance_ask(shape, INDEX, words, 3, phrase));
+    show("ask, w128 owl and a rank above V", concordance_ask(shape, INDEX, words, 3, above));
+    const concordance_question sheet[5] = {
+        {.kind = 2, .w = owl, .p = WORDS},              /* how often owl stands */
+        {.kind = 3, .w = owl, .p = 1},                  /* its first place */
+        {.kind = 4, .w = w128, .v = owl, .d = 1},       /* how often it stands right after w128 */
+        {.kind = 5, .start = 1, .length = 1},           /* the phrase owl */
+        {.kind = 4, .w = owl + 1, .v = w128, .d = 1},   /* a rank above V */
+    };
+    uint32_t answers[10];
+    show("answer_sheet, absent words", concordance_answer_sheet(shape, INDEX, words, 3, sheet, 5, answers, 10));
+    for (size_t i = 0; i < 5; i++) printf(" kind %u: refusal %u, value %u\n", sheet[i].kind, answers[2 * i], answers[2 * i + 1]);
+
+    uint32_t line[1];
+    const concordance_page page = concordance_list(concordance_open(), shape, INDEX, words, 3, 0, 2, line, 1);
+    show("list, w128 owl", page.answer);
+    printf(" next %zu, %s\n", page.listing.next, page.more ? "more follow" : "the end");
+    uint32_t counts[2];
+    show("summary, w128 owl", concordance_summary(shape, INDEX, after, 2, words, 3, 0, 2, counts, 2));
+    show_numbers(counts, 2);
+}
+
+/* Entry 18: the word list of a plain text that comes without one, and the text's ranks by it. */
 static void word_lists(void) {
     const char *plain = "Tock, tick! TICK.";
     uint8_t list[10];
@@ -249,8 +290,8 @@ static void fill_letters(uint8_t letters[LETTERS]) {
     }
 }
 
-/* Entries 18, 19 and 20: a letter table of one's own, which is the built-in one with F7 as a letter and D7 as its capital, its check, and reading plain
-   text and making a list by it. */
+/* Entries 19 to 22: a letter table of one's own, which is the built-in one with F7 as a letter and D7 as its capital, its check, and reading plain text,
+   finding a spelled word and making a list by it. */
 static void own_letters(void) {
     uint8_t letters[LETTERS];
     fill_letters(letters);
@@ -266,6 +307,9 @@ static void own_letters(void) {
     show("read_text_with", concordance_read_text_with(letters, LETTERS, list, 4, plain, 3, ranks, 2));
     show_numbers(ranks, 1);
     show("read_text, the same list", concordance_read_text(list, 4, plain, 3, ranks, 2)); /* F7 is not kept */
+    show("find_word_with", concordance_find_word_with(letters, LETTERS, list, 4, plain, 3));
+    show("find_word_with, a word that the list lacks", concordance_find_word_with(letters, LETTERS, list, 4, plain, 2));
+    show("find_word, the same list", concordance_find_word(list, 4, plain, 3));
 
     uint8_t made_list[4];
     concordance_list_made made = concordance_make_list_with(letters, LETTERS, plain, 7, made_list, 4, ranks, 2);
@@ -274,6 +318,7 @@ static void own_letters(void) {
     show_bytes(made_list, made.bytes);
     show_numbers(ranks, made.words);
     letters[0x0A] = 0x61;
+    show("find_word_with, 0A read as a letter", concordance_find_word_with(letters, LETTERS, list, 0, plain, 3)); /* the list is empty besides */
     made = concordance_make_list_with(letters, LETTERS, plain, 7, made_list, 0, ranks, 0); /* the slices are too short besides */
     show("make_list_with, 0A read as a letter", made.answer);
     printf(" bytes %zu, words %zu\n", made.bytes, made.words);
@@ -291,6 +336,7 @@ int main(void) {
     pages_in_documents();
     summaries();
     plain_text();
+    absent_words();
     word_lists();
     own_letters();
     return 0;

@@ -39,6 +39,12 @@
  * that break a rule by 19. A call without starts takes the text as one run from end to end: it answers as with the one start 0, in the empty text as with no
  * start.
  *
+ * Absent words. A rank that is asked about, w or v of a question or a word of a phrase, may be V, which is no rank of a text. It means an absent word, one
+ * that stands nowhere: it is counted 0 times and has no place, and a phrase with an absent word is counted 0 times, in each document too, and has a listing
+ * that is finished by its first page. Ranks above V are refused by 9. concordance_find_word gives the rank of a spelled word in a word list, and V where the
+ * list lacks it: what it gives can be used as it stands as a rank asked about or as a word of a phrase, provided that the index has the V of the list. In a
+ * text to index or code V is refused by 4, as every rank that is not below it.
+ *
  * The check. Every call that is lent an index checks it, in one pass over its bytes. The check says that some text has these arrays as its
  * index, and then only one text has. It cannot say that they are the arrays that were written: a changed byte can make them the index of
  * another text, and seeing that is the work of a checksum. Since each call makes the check, many contexts are one sheet of questions of kind
@@ -50,7 +56,7 @@
  * 6 and before 7). No call keeps a pointer, and equal arguments have equal answers.
  *
  * Stack. No call allocates memory; its tables lie on the stack. The most that a call needs, as bench/stack.c measures it on x86-64:
- *   concordance_read_text, concordance_read_text_with: 1463 KB
+ *   concordance_read_text, concordance_read_text_with, concordance_find_word, concordance_find_word_with: 1463 KB
  *   concordance_make_list, concordance_make_list_with: 919 KB
  *   concordance_build, concordance_build_sized, concordance_ask, concordance_answer_sheet, concordance_passage, concordance_list,
  *   concordance_ask_in_documents, concordance_answer_sheet_in_documents, concordance_list_in_documents, concordance_summary: 265 KB
@@ -68,7 +74,7 @@
  * The version of this header. It changes when an entry is added, or a struct or the meaning of an entry changes, so that a program can tell
  * what it was written for.
  */
-#define CONCORDANCE_VERSION 6
+#define CONCORDANCE_VERSION 7
 
 #ifdef __cplusplus
 extern "C" {
@@ -93,7 +99,7 @@ enum {
     CONCORDANCE_REFUSED_KIND = 7,
     /* phrase length above 16, or part outside the lent words; an empty part is outside if it starts past their end; in a summary, length 0 too */
     CONCORDANCE_REFUSED_PHRASE = 8,
-    /* a rank asked about is not below V */
+    /* a rank asked about is above V */
     CONCORDANCE_REFUSED_ASKED_RANK = 9,
     /* offset outside -16 to 16 */
     CONCORDANCE_REFUSED_OFFSET = 10,
@@ -167,6 +173,8 @@ typedef struct {
  *   4  the number of places q with w at q and v at q + d, where q + d is inside the text; d from -16 to 16, negative to the left
  *   5  how often the phrase stands that is the part (start, length) of the lent words, up to 16 of them; hits may overlap. The phrase of no
  *      words, length 0, stands at every place from 0 to n: n + 1 times, once in the empty text
+ * The ranks w and v and the words of the phrase are 0 to V, and V is an absent word: kind 2 gives 0 for it, kind 3 no place, whatever p is, kind 4 gives 0 if
+ * w or v is V, and kind 5 if a word of the phrase is V.
  * In a call that is lent document starts, kind 4 counts q only where q and q + d lie in one document, and kind 5 a phrase of one word or more only where
  * all its words do; kinds 1 to 3 and the phrase of no words have the same answers as without.
  */
@@ -187,8 +195,8 @@ typedef struct {
  * accepted or refused. If all accepted calls bring the same phrase and the same V, B, b and arrays, and the same document starts or none, then the
  * places of the accepted pages, one page after another, are the places at which the phrase stands in the text, with starts inside one document:
  * ascending, each once, none missing as soon as a page is accepted without reporting more; then they are as many as concordance_ask, kind 5, counts, or
- * concordance_ask_in_documents with the same starts. The page with the last place reports the end, and so does the first page where there is none. The
- * places of the phrase of no words are 0, 1, .., n.
+ * concordance_ask_in_documents with the same starts. The page with the last place reports the end, and so does the first page where there is none. There
+ * is none, and the count is 0, where a word of the phrase is V, an absent word. The places of the phrase of no words are 0, 1, .., n.
  */
 typedef struct {
     size_t next;
@@ -278,13 +286,14 @@ concordance_answer concordance_check(concordance_shape shape, const uint32_t *le
  * Writes: nothing, accepted or refused.
  * Refusals: 1, 3 and 6 as concordance_check; 7 if the kind is outside 1 to 5; then by the kind:
  *   1  11 if p is not below n
- *   2  9 if w is not below V; 11 if p is above n
- *   3  9 if w is not below V; 11 if p is 0 or above the number of places where w stands
- *   4  9 if w or v is not below V; 10 if d is outside -16 to 16
+ *   2  9 if w is above V; 11 if p is above n
+ *   3  9 if w is above V; 11 if p is 0 or above the number of places where w stands, so that 11 is given for every p if w is V
+ *   4  9 if w or v is above V; 10 if d is outside -16 to 16
  *   5  8 if length is above 16, or the part does not lie in the lent words (start + length above words_len, for any two numbers); 9 if a word
- *      of the part is not below V. A part of length 0 may start at the end of the lent words, also where none is lent, but not past it;
+ *      of the part is above V. A part of length 0 may start at the end of the lent words, also where none is lent, but not past it;
  *      it has no word, and 9 is never given for it
- * The value of each is 0. In kinds 2, 4 and 5, what does not stand in the text is no refusal: the answer is 0.
+ * The value of each is 0. In kinds 2, 4 and 5, what does not stand in the text, as an absent word never does, is no refusal: the answer is 0. The other
+ * refusals of a kind are tried for an absent word too.
  */
 concordance_answer concordance_ask(concordance_shape shape, const uint32_t *lengths, size_t lengths_len, const uint8_t *bytes, size_t bytes_len,
                                    const uint32_t *superblocks, size_t superblocks_len, const uint16_t *blocks, size_t blocks_len,
@@ -328,9 +337,10 @@ concordance_listing concordance_open(void);
  * Returns: in `answer` the number of places written; in `more` whether the page is full and another place follows; in `listing` the state
  * for the next page. If more follow, its next is the last place written plus 1; otherwise it is finished with next n. A full page that no
  * further place follows does not report more. A finished state is accepted and refused like any other; accepted, it writes nothing,
- * returns 0 and not more, and comes back the same. The phrase of no words, length 0, has the places 0, 1, .., n: a page that is full with
- * n - 1 as its last place reports more, with next n; the page that writes n is finished with next n. An accepted page never returns a next
- * above n.
+ * returns 0 and not more, and comes back the same. A phrase with an absent word, V, has no place: an accepted page of it writes nothing,
+ * returns 0 and not more, and a state that is not finished comes back finished with next n. The phrase of no words, length 0, has the places
+ * 0, 1, .., n: a page that is full with n - 1 as its last place reports more, with next n; the page that writes n is finished with next n. An
+ * accepted page never returns a next above n.
  * Writes: the places at or after listing.next where the phrase stands, ascending, in front of `lines`, until it is full or there are no
  * more; the elements past them stay.
  * Refusals: 1, 3 and 6 as concordance_check; 8 and 9 for the phrase as concordance_ask, kind 5; 11 if listing.next is above n, finished or
@@ -374,7 +384,7 @@ concordance_answer concordance_answer_sheet_in_documents(concordance_shape shape
  * The next page of the listing of a phrase as concordance_list, with document starts: a phrase of one word or more is listed only where all its words lie
  * in one document. The starts may be others from one accepted page to the next, but a listing is promised to be complete only where all bring the same.
  * Returns: in `answer` the number of places written; in `more` whether the page is full and another place follows; in `listing` the state for the next
- * page, as concordance_list gives it.
+ * page, as concordance_list gives it, for a phrase with an absent word too.
  * Writes: the places at or after listing.next where the phrase stands in one document, ascending, in front of `lines`, until it is full or there are no
  * more; the elements past them stay.
  * Refusals: 1, 3 and 6 as concordance_check; 19 if the starts break a rule, finished or not; 8 and 9 for the phrase as concordance_ask, kind 5; 11 if
@@ -390,9 +400,10 @@ concordance_page concordance_list_in_documents(concordance_listing listing, conc
  * The summary of a phrase, which is the part (start, length) of the lent words: how often it stands in each document, which is how often it stands in the
  * words of the document by themselves. The counts add up to what concordance_ask_in_documents, kind 5, counts with the same starts.
  * Returns: the number of documents, which is starts_len. The empty text has none: nothing is written, and 0 is returned.
- * Writes: the count of each document, in their order, in front of `counts`; the elements past them stay.
+ * Writes: the count of each document, in their order, in front of `counts`; the elements past them stay. Where a word of the part is V, an absent word, each
+ * count is 0.
  * Refusals: 1, 3 and 6 as concordance_check; 19 if the starts break a rule; 8 if length is 0 or above 16, or the part does not lie in the lent words
- * (start + length above words_len, for any two numbers); 9 if a word of the part is not below V; 12 if `counts` is shorter than one element for each
+ * (start + length above words_len, for any two numbers); 9 if a word of the part is above V; 12 if `counts` is shorter than one element for each
  * document. The value of each is 0. A refused call changes nothing.
  */
 concordance_answer concordance_summary(concordance_shape shape, const uint32_t *lengths, size_t lengths_len, const uint8_t *bytes, size_t bytes_len,
@@ -413,6 +424,19 @@ concordance_answer concordance_summary(concordance_shape shape, const uint32_t *
 concordance_answer concordance_read_text(const uint8_t *list, size_t list_len, const uint8_t *text, size_t text_len, uint32_t *ranks, size_t ranks_len);
 
 /*
+ * Finds a spelled word in a word list, which is a list as concordance_read_text takes it. Each byte of the spelling is folded by the built-in
+ * letter table, and a word of the list is the spelled one if it has exactly these bytes.
+ * Returns: the rank of the spelled word; V, the number of words of the list, where the list lacks it. An empty spelling, and one with a
+ * separator, a line end too, is in no list: V. The value can be used as it stands as a rank asked about or as a word of a phrase, provided that
+ * the index has the V of the list; there V is an absent word. A spelling that is one word of a plain text has the rank that
+ * concordance_read_text gives that word.
+ * Writes: nothing, accepted or refused.
+ * Refusals: 1 if V, the number of 0A bytes of the list, is outside its limits; 13 if a word of the list is empty, stands there twice, is not
+ * closed, or has the byte 00 or one that is not kept. The value of each is 0. Whatever the spelling is, it is no refusal.
+ */
+concordance_answer concordance_find_word(const uint8_t *list, size_t list_len, const uint8_t *spelling, size_t spelling_len);
+
+/*
  * Makes the word list of a plain text that comes without one, and reads the text through it. The list has each word of the text once, as
  * concordance_read_text finds and folds it, the most frequent first and equally frequent ones by their first appearance. By no other order of
  * the same words is the text's stream shorter.
@@ -420,8 +444,8 @@ concordance_answer concordance_read_text(const uint8_t *list, size_t list_len, c
  * of 0A bytes of the list. The word of rank i stands in the text as often as i stands among the ranks, and these frequencies add up to n.
  * Writes: the list, each word closed by 0A, in front of `list`; the rank of each word of the text, in order, in front of `ranks`, as
  * concordance_read_text gives it by this list. The elements past them stay. text_len + 1 bytes and (text_len + 1) / 2 ranks are enough, and so
- * are always 65,537 bytes and 32,768 ranks. A text without words is accepted: its list is empty, it has no ranks, and concordance_read_text
- * refuses every text with this list by 1.
+ * are always 65,537 bytes and 32,768 ranks. A text without words is accepted: its list is empty, it has no ranks, and with this list
+ * concordance_read_text refuses every text by 1, and concordance_find_word every call.
  * Refusals: 2 if the text has more than 16,777,216 words; 17 if it has more than 65,536 bytes, or more than 4,096 distinct words; 5 if `list` is
  * shorter than the list, or `ranks` has fewer elements than the text has words. The value of each is 0, and so are `bytes` and `words`. A refused
  * call changes nothing.
@@ -449,6 +473,20 @@ concordance_answer concordance_check_letters(const uint8_t *letters, size_t lett
  */
 concordance_answer concordance_read_text_with(const uint8_t *letters, size_t letters_len, const uint8_t *list, size_t list_len,
                                               const uint8_t *text, size_t text_len, uint32_t *ranks, size_t ranks_len);
+
+/*
+ * Finds a spelled word in a word list as concordance_find_word, with the lent letter table in place of the built-in one: by it a byte of the
+ * spelling is a letter or a separator, is folded, and is kept in the list. With a copy of the built-in table the answers are those of
+ * concordance_find_word.
+ * Returns: the rank of the spelled word; V, the number of words of the list, where the list lacks it, as it lacks an empty spelling and one with
+ * a separator of the table.
+ * Writes: nothing, accepted or refused.
+ * Refusals: 18 if the table breaks a rule; 1 if V, the number of 0A bytes of the list, is outside its limits; 13 if a word of the list is empty,
+ * stands there twice, is not closed, or has the byte 00 or one that the table does not keep. The value of each is 0. Whatever the spelling is,
+ * it is no refusal.
+ */
+concordance_answer concordance_find_word_with(const uint8_t *letters, size_t letters_len, const uint8_t *list, size_t list_len,
+                                              const uint8_t *spelling, size_t spelling_len);
 
 /*
  * Makes the word list of a plain text and reads the text through it as concordance_make_list, with the lent letter table in place of the

@@ -38,18 +38,20 @@ impl<'a> Documents<'a> {
         })
     }
 
-    /// How often a phrase stands inside a document. The phrase of no words stands at every place from 0 to n: n + 1 times.
+    /// How often a phrase stands inside a document; 0 where one of its words is V, an absent word. The phrase of no words stands at every place from 0
+    /// to n: n + 1 times.
     pub fn count(&self, phrase: &[u32]) -> Result<usize, Refused> {
         self.ask(phrase, Question::phrase(0, phrase.len()))
     }
 
-    /// The pages of the listing of a phrase, each of at most so many lines. Those of the phrase of no words list every place from 0 to n.
+    /// The pages of the listing of a phrase, each of at most so many lines. Those of the phrase of no words list every place from 0 to n; a phrase with
+    /// an absent word, V, has one page without places.
     pub fn pages(&self, phrase: &'a [u32], lines: usize) -> Pages<'a> {
         Pages::open(self.index, Some(self.starts), phrase, lines)
     }
 
-    /// How often a phrase of one word or more stands in each document. A text has at most as many documents as words: for more starts, which break a
-    /// rule, no longer slice is made.
+    /// How often a phrase of one word or more stands in each document; 0 in each where one of its words is V, an absent word. A text has at most as many
+    /// documents as words: for more starts, which break a rule, no longer slice is made.
     pub fn summary(&self, phrase: &[u32]) -> Result<Vec<u32>, Refused> {
         let (shape, arrays) = (self.index.shape(), self.index.arrays().slices());
         let mut counts = vec![0; self.starts.len().min(self.index.words())];

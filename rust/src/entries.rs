@@ -1,4 +1,4 @@
-//! The twenty entries of the archive, over slices and as they are: no slice is made, and the answer is the one that the engine gives.
+//! The twenty-two entries of the archive, over slices and as they are: no slice is made, and the answer is the one that the engine gives.
 //!
 //! Each call is safe, since an entry asks nothing of its arguments but what a slice always has: it is not null, aligned, initialized and as
 //! long as it says, and one that is written is lent to nobody else.
@@ -179,6 +179,11 @@ pub fn read_text(list: &[u8], text: &[u8], ranks: &mut [u32]) -> Answer {
     }
 }
 
+/// Finds a spelled word in a word list; V where the list lacks it.
+pub fn find_word(list: &[u8], spelling: &[u8]) -> Answer {
+    unsafe { ffi::concordance_find_word(list.as_ptr(), list.len(), spelling.as_ptr(), spelling.len()) }
+}
+
 /// Makes the word list of a plain text, and writes the ranks of its words.
 pub fn make_list(text: &[u8], list: &mut [u8], ranks: &mut [u32]) -> ListMade {
     unsafe {
@@ -210,6 +215,20 @@ pub fn read_text_with(letters: &[u8], list: &[u8], text: &[u8], ranks: &mut [u32
             text.len(),
             ranks.as_mut_ptr(),
             ranks.len(),
+        )
+    }
+}
+
+/// Finds a spelled word in a word list, by a lent letter table; V where the list lacks it.
+pub fn find_word_with(letters: &[u8], list: &[u8], spelling: &[u8]) -> Answer {
+    unsafe {
+        ffi::concordance_find_word_with(
+            letters.as_ptr(),
+            letters.len(),
+            list.as_ptr(),
+            list.len(),
+            spelling.as_ptr(),
+            spelling.len(),
         )
     }
 }

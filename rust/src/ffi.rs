@@ -37,7 +37,8 @@ pub struct Measured {
     pub sizes: IndexSizes,
 }
 
-/// A question: its kind, ranks w and v, offset d, number p, and a part of the lent phrase words.
+/// A question: its kind, ranks w and v, offset d, number p, and a part of the lent phrase words. A rank that is asked about may be V, which means
+/// an absent word: one that stands nowhere.
 #[repr(C)]
 #[derive(Clone, Copy, Debug, PartialEq, Eq)]
 pub struct Question {
@@ -90,23 +91,23 @@ impl Question {
         Question { kind: 1, p, ..Question::NONE }
     }
 
-    /// Kind 2: how often w stands at places below p.
+    /// Kind 2: how often w stands at places below p; 0 for an absent word.
     pub fn occurrences_below(w: u32, p: usize) -> Question {
         Question { kind: 2, w, p, ..Question::NONE }
     }
 
-    /// Kind 3: the place of the p-th w, counted from 1.
+    /// Kind 3: the place of the p-th w, counted from 1; an absent word has none.
     pub fn place_of(w: u32, p: usize) -> Question {
         Question { kind: 3, w, p, ..Question::NONE }
     }
 
-    /// Kind 4: how often w has v at the offset d.
+    /// Kind 4: how often w has v at the offset d; 0 where one of them is an absent word.
     pub fn neighbours(w: u32, v: u32, d: i32) -> Question {
         Question { kind: 4, w, v, d, ..Question::NONE }
     }
 
-    /// Kind 5: how often the phrase in this part of the lent words stands. The phrase of no words, length 0, stands at every place from 0 to n,
-    /// and its part may start at the end of the lent words, but not past it.
+    /// Kind 5: how often the phrase in this part of the lent words stands; 0 where one of them is an absent word. The phrase of no words, length 0,
+    /// stands at every place from 0 to n, and its part may start at the end of the lent words, but not past it.
     pub fn phrase(start: usize, length: usize) -> Question {
         Question { kind: 5, start, length, ..Question::NONE }
     }
@@ -322,6 +323,8 @@ extern "C" {
         ranks_len: usize,
     ) -> Answer;
 
+    pub fn concordance_find_word(list: *const u8, list_len: usize, spelling: *const u8, spelling_len: usize) -> Answer;
+
     pub fn concordance_make_list(
         text: *const u8,
         text_len: usize,
@@ -342,6 +345,15 @@ extern "C" {
         text_len: usize,
         ranks: *mut u32,
         ranks_len: usize,
+    ) -> Answer;
+
+    pub fn concordance_find_word_with(
+        letters: *const u8,
+        letters_len: usize,
+        list: *const u8,
+        list_len: usize,
+        spelling: *const u8,
+        spelling_len: usize,
     ) -> Answer;
 
     pub fn concordance_make_list_with(

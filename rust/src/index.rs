@@ -138,7 +138,8 @@ impl Index {
         })
     }
 
-    /// How often a phrase stands in the text. The phrase of no words stands at every place from 0 to n: n + 1 times.
+    /// How often a phrase stands in the text; 0 where one of its words is V, an absent word. The phrase of no words stands at every place from 0 to n:
+    /// n + 1 times.
     pub fn count(&self, phrase: &[u32]) -> Result<usize, Refused> {
         self.ask(phrase, Question::phrase(0, phrase.len()))
     }

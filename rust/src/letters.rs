@@ -11,9 +11,9 @@ use crate::refusal::Refused;
 pub struct Letters([u8; 256]);
 
 impl Letters {
-    /// The built-in letter table, that of [`crate::read_text`] and [`crate::make_list`], over ISO 8859-1: 30 to 39 and 61 to 7A keep their value,
-    /// 41 to 5A gain 20 (hexadecimal too), C0 to DE without D7 gain 20, DF to FF without F7 keep theirs; the rest are 0. The program `letters` of
-    /// the repository prints it.
+    /// The built-in letter table, that of [`crate::read_text`], [`crate::find_word`] and [`crate::make_list`], over ISO 8859-1: 30 to 39 and 61 to 7A
+    /// keep their value, 41 to 5A gain 20 (hexadecimal too), C0 to DE without D7 gain 20, DF to FF without F7 keep theirs; the rest are 0. The
+    /// program `letters` of the repository prints it.
     pub const fn built_in() -> Letters {
         let mut table = [0; 256];
         let mut byte = 0;

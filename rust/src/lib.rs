@@ -5,8 +5,8 @@
 //! and plain text are read and written by functions of their own. Every refusal of the engine comes
 //! back as a [`Refused`], with the number and the value of the engine's table.
 //!
-//! Nothing here decides an answer: the functions lend slices to the engine and hand on what it says. The module [`entries`] has the twenty
-//! entries themselves, over slices that the caller makes.
+//! Nothing here decides an answer: the functions lend slices to the engine and hand on what it says. The module [`entries`] has the
+//! twenty-two entries themselves, over slices that the caller makes.
 //!
 //! # Memory
 //!
@@ -21,8 +21,15 @@
 //! # Letters of one's own
 //!
 //! Which bytes make words, and how they are folded, is said by a letter table of 256 entries. [`Letters::built_in`] is that of ISO 8859-1; of any
-//! other that keeps the rules [`Letters::new`] makes one, with which [`make_list_with`] and [`read_text_with`] do what [`make_list`] and
-//! [`read_text`] do with the built-in one.
+//! other that keeps the rules [`Letters::new`] makes one, with which [`make_list_with`], [`read_text_with`] and [`find_word_with`] do what
+//! [`make_list`], [`read_text`] and [`find_word`] do with the built-in one.
+//!
+//! # Absent words
+//!
+//! Somebody may type a word that no text has. [`find_word`] gives the rank of a typed word, and V, the number of words of the list, for one that the
+//! list lacks. As a rank that is asked about, V means an absent word, and an [`Index`] with the V of the list answers: the word and every phrase with
+//! it are counted 0 times, [`Index::pages`] gives one page without places, and [`Documents::summary`] 0 for each document. An absent word has no place
+//! ([`Question::place_of`] is refused by [`Refusal::Place`]), and ranks above V are refused by [`Refusal::AskedRank`].
 //!
 //! # Browsing
 //!
@@ -37,9 +44,9 @@
 //!
 //! # Stack
 //!
-//! The engine allocates nothing; its tables lie on the stack of the calling thread. As `bench/stack.c` measures it, [`read_text`] and
-//! [`read_text_with`] need 1.5 MB, [`make_list`] and [`make_list_with`] 0.9 MB, building, questions, sheets, passages, pages and summaries 265 KB,
-//! the rest less than 4 KB. A thread with Rust's default stack of 2 MB can make every call.
+//! The engine allocates nothing; its tables lie on the stack of the calling thread. As `bench/stack.c` measures it, [`read_text`],
+//! [`read_text_with`], [`find_word`] and [`find_word_with`] need 1.5 MB, [`make_list`] and [`make_list_with`] 0.9 MB, building, questions, sheets,
+//! passages, pages and summaries 265 KB, the rest less than 4 KB. A thread with Rust's default stack of 2 MB can make every call.
 //!
 //! # What the check says
 //!
@@ -65,7 +72,7 @@ pub use index::{Arrays, Index};
 pub use letters::Letters;
 pub use listing::{Page, Pages};
 pub use refusal::{Refusal, Refused};
-pub use streams::{read_stream, read_text, read_text_with, write_stream};
+pub use streams::{find_word, find_word_with, read_stream, read_text, read_text_with, write_stream};
 pub use word_list::{make_list, make_list_with, WordList};
 
 /// The largest vocabulary.

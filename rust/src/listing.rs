@@ -23,7 +23,8 @@ pub struct Pages<'a> {
 }
 
 impl Index {
-    /// The pages of the listing of a phrase, each of at most so many lines. Those of the phrase of no words list every place from 0 to n.
+    /// The pages of the listing of a phrase, each of at most so many lines. Those of the phrase of no words list every place from 0 to n; a phrase with
+    /// an absent word, V, has one page without places.
     pub fn pages<'a>(&'a self, phrase: &'a [u32], lines: usize) -> Pages<'a> {
         Pages::open(self, None, phrase, lines)
     }

@@ -85,7 +85,7 @@ impl Refusal {
                 "phrase length above 16, or part outside the lent words, an empty one that starts past their end \
                  included; in a summary, length 0 too"
             }
-            Refusal::AskedRank => "a rank asked about is not below V",
+            Refusal::AskedRank => "a rank asked about is above V",
             Refusal::Offset => "offset outside -16 to 16",
             Refusal::Place => "place or ordinal outside its range; a listing's next place above n",
             Refusal::Page => {

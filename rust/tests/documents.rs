@@ -143,7 +143,7 @@ fn sample_pages() {
     }
 }
 
-/// Summaries of 7, 7 7, 7 7 7 and 7 7 7 7 in 7 7 7 7 7, and refused ones.
+/// Summaries of 7, 7 7, 7 7 7 and 7 7 7 7 in 7 7 7 7 7, of phrases with 8, which is V, and refused ones.
 #[test]
 fn sample_summaries() {
     for (starts, length, counts) in [
@@ -159,8 +159,13 @@ fn sample_summaries() {
         let summary = (reference::accepted(starts.len()), counts.to_vec());
         assert_eq!(lent.summary((0, length), 5), summary, "{starts:?}, {length}");
     }
-    let lent = lent(small(8), &[7; 5], &[0, 2], &[7, 8]);
-    for (part, room, refusal) in [((0, 0), 3, 8), ((1, 1), 3, 9), ((0, 2), 1, 9), ((0, 1), 1, 12), ((2, 1), 0, 8)] {
+    let lent = lent(small(8), &[7; 5], &[0, 2], &[7, 8, 9]);
+    for part in [(1, 1), (0, 2)] {
+        assert_eq!(lent.summary(part, 3), (reference::accepted(2), vec![0, 0, COUNTS]), "{part:?}");
+    }
+    for (part, room, refusal) in
+        [((0, 0), 3, 8), ((2, 1), 3, 9), ((1, 2), 1, 9), ((0, 1), 1, 12), ((1, 1), 1, 12), ((3, 1), 0, 8)]
+    {
         assert_eq!(lent.summary(part, room), (reference::refused(refusal), vec![COUNTS; room]), "{part:?}, {room}");
     }
 }
@@ -335,10 +340,10 @@ fn broken_starts() {
 const BROKEN: [&[u32]; 7] = [&[], &[1], &[0, 0], &[0, 2, 1], &[0, 3], &[0, u32::MAX], &[0, 1, 2, 3, 4]];
 
 /// The index of 1 0 1, with the starts 0 and 2 and seventeen words, and with some of five faults: V outside its limits, B 0, a counter off by one, starts
-/// that break a rule, and a second word that is V.
+/// that break a rule, and a second word that is above V.
 fn faulty([no_vocabulary, no_blocks, damaged, broken, unknown]: [bool; 5], starts: &[u32]) -> Lent {
     let mut words = [1; 17];
-    words[1] = if unknown { 2 } else { 0 };
+    words[1] = if unknown { 3 } else { 0 };
     let mut lent = lent(small(2), &[1, 0, 1], if broken { starts } else { &[0, 2] }, &words);
     if no_vocabulary {
         lent.shape.vocabulary = 0;
@@ -370,13 +375,13 @@ fn order_of_refusals_of_questions() {
     for (kind, number) in (1..=5).flat_map(|kind| (0..256).map(move |number| (kind, number))) {
         let [no_vocabulary, no_blocks, damaged, broken, no_kind, first, second, short] = bits(number);
         let lent = faulty([no_vocabulary, no_blocks, damaged, broken, second && kind == 5], BROKEN[number % 7]);
-        let rank = |unknown: bool| if unknown { 2 } else { 1 };
+        let rank = |unknown: bool| if unknown { 3 } else { 1 };
         let (question, faults, value) = match kind {
             1 => (Question::word_at(if second { 3 } else { 2 }), [(false, 0), (second, 11)], 1),
             2 => (Question::occurrences_below(rank(first), if second { 4 } else { 3 }), [(first, 9), (second, 11)], 2),
             3 => (Question::place_of(rank(first), if second { 3 } else { 2 }), [(first, 9), (second, 11)], 2),
             4 => {
-                let v = if first { 2 } else { 0 };
+                let v = if first { 3 } else { 0 };
                 (Question::neighbours(1, v, if second { 17 } else { 1 }), [(first, 9), (second, 10)], 1)
             }
             _ => (Question::phrase(0, if first { 17 } else { 2 }), [(first, 8), (second, 9)], 1),
@@ -466,6 +471,7 @@ fn drawn(random: &mut Random) -> (Lent, Vec<u32>) {
 fn random_questions() {
     let mut random = Random::of("random_questions");
     let (mut met, mut met_by_sheets): (Met, Met) = ([0; 20], [0; 20]);
+    let (mut absent, mut above) = ([0; 6], [0; 6]);
     for _ in 0..3_000 {
         let (lent, text) = drawn(&mut random);
         let count = random.below(8);
@@ -478,12 +484,21 @@ fn random_questions() {
         for (at, question) in questions.iter().enumerate() {
             let single = lent.ask(*question);
             met[single.refusal as usize] += 1;
+            if single.refusal == 9 {
+                above[question.kind as usize] += 1;
+            }
+            let of_index = [1, 3, 6, 19].contains(&single.refusal);
+            if !of_index && inputs::asks_about_absent(lent.shape.vocabulary, &lent.words, *question) {
+                assert_eq!(single.value, 0, "{question:?}, {lent:?}");
+                absent[question.kind as usize] += 1;
+            }
             if answer.refusal == 0 {
                 assert_eq!(pairs[2 * at..2 * at + 2], [single.refusal, single.value as u32], "{question:?}, {lent:?}");
             }
         }
     }
     assert_met(met, &[0, 1, 3, 6, 7, 8, 9, 10, 11, 19], 30);
+    assert!(absent[2..].iter().chain(&above[2..]).all(|&times| times > 10), "{absent:?} absent, {above:?} above V");
     assert_met(met_by_sheets, &[0, 1, 3, 6, 12, 19], 10);
 }
 
@@ -529,6 +544,7 @@ fn next_place(random: &mut Random, words: usize) -> usize {
 fn random_pages() {
     let mut random = Random::of("random_pages");
     let mut met: Met = [0; 20];
+    let mut absent = 0;
     for _ in 0..6_000 {
         let (lent, text) = drawn(&mut random);
         let part = inputs::part(&mut random, &lent.words);
@@ -536,8 +552,11 @@ fn random_pages() {
         let lines = random.below(5);
         let (page, _) = lent.list(state, part, lines);
         met[page.answer.refusal as usize] += 1;
+        absent +=
+            usize::from(page.answer.refusal == 0 && inputs::part_has_absent(lent.shape.vocabulary, &lent.words, part));
     }
     assert_met(met, &[0, 1, 3, 6, 8, 9, 11, 12, 19], 30);
+    assert!(absent > 50, "{absent} pages of a phrase with an absent word");
 }
 
 /// Summaries of any part of the lent words in slices of any length: accepted, they add up to the count, and each is the count in an index of the document
@@ -546,7 +565,7 @@ fn random_pages() {
 fn random_summaries() {
     let mut random = Random::of("random_summaries");
     let mut met: Met = [0; 20];
-    let mut hits = 0;
+    let (mut hits, mut absent) = (0, 0);
     for _ in 0..6_000 {
         let (lent, _) = drawn(&mut random);
         let (start, length) = match random.below(4) {
@@ -563,6 +582,10 @@ fn random_summaries() {
         let sum = counts[..answer.value].iter().map(|&count| count as usize).sum();
         assert_eq!(lent.ask(Question::phrase(start, length)), reference::accepted(sum), "{lent:?}");
         hits += sum;
+        if inputs::part_has_absent(lent.shape.vocabulary, &lent.words, (start, length)) {
+            assert_eq!(sum, 0, "{lent:?}");
+            absent += 1;
+        }
         if answer.value > 20 {
             continue;
         }
@@ -576,7 +599,7 @@ fn random_summaries() {
         }
     }
     assert_met(met, &[0, 1, 3, 6, 8, 9, 12, 19], 30);
-    assert!(hits > 5_000, "{hits}");
+    assert!(hits > 5_000 && absent > 100, "{hits} hits, {absent} phrases with an absent word");
 }
 
 /// With the one start 0, and with no start of the empty text, every answer is the one without starts: of questions, sheets and pages, refused ones too, and
@@ -626,7 +649,8 @@ fn one_document() {
 
 // ---- whole listings
 
-/// A phrase of up to three words that stands in a text of up to sixty words if it has a word, as the part of some words, with starts of the text.
+/// A phrase of up to three words that stands in a text of up to sixty words if it has a word, and now and then has an absent one, as the part of some words,
+/// with starts of the text.
 fn good(random: &mut Random) -> (Lent, Vec<u32>, (usize, usize)) {
     let vocabulary = inputs::vocabulary(random);
     let shape = inputs::shape(random, vocabulary);
@@ -635,7 +659,10 @@ fn good(random: &mut Random) -> (Lent, Vec<u32>, (usize, usize)) {
     let starts = inputs::starts(random, text.len());
     let length = random.between(0, 3).min(text.len());
     let from = random.below(text.len() - length + 1);
-    let words = [&[vocabulary as u32 - 1; 2], &text[from..from + length]].concat();
+    let mut words = [&[vocabulary as u32 - 1; 2], &text[from..from + length]].concat();
+    if length > 0 && random.once_in(6) {
+        words[2 + random.below(length)] = vocabulary as u32;
+    }
     (lent(shape, &text, &starts, &words), text, (2, length))
 }
 
@@ -647,15 +674,17 @@ fn bad(random: &mut Random, good: &Lent, words: usize, part: (usize, usize)) -> 
         0 => call.shape.vocabulary = random.one_of(&[0, reference::MAX_VOCABULARY + 1]),
         1 => call.shape.block = 0,
         2 => call.arrays.blocks[3] += 1,
-        3 if part.1 > 0 => call.words[part.0] = call.shape.vocabulary as u32,
+        3 if part.1 > 0 => {
+            call.words[part.0 + random.below(part.1)] = inputs::rank_above(random, call.shape.vocabulary);
+        }
         4 => return (call, random.one_of(&[(0, 17), (past, 0), (usize::MAX, 0), (usize::MAX, 1)])),
         _ => call.starts = inputs::broken_starts(random, words),
     }
     (call, part)
 }
 
-/// Each clause of demand 3, over one run of calls that all bring the same starts, save those that are turned down.
-fn run(random: &mut Random, met: &mut Met) {
+/// Each clause of demand 3, over one run of calls that all bring the same starts, save those that are turned down; whether a word of the phrase is absent.
+fn run(random: &mut Random, met: &mut Met) -> bool {
     let (good, text, part) = good(random);
     let phrase = good.words[part.0..].to_vec();
     let crossed =
@@ -699,16 +728,16 @@ fn run(random: &mut Random, met: &mut Met) {
         assert_eq!(answer, reference::accepted(good.starts.len()), "{good:?}");
         assert_eq!(counts.iter().sum::<u32>() as usize, all.len(), "{good:?}");
     }
+    inputs::part_has_absent(good.shape.vocabulary, &good.words, part)
 }
 
 #[test]
 fn runs_of_pages() {
     let mut random = Random::of("runs_of_pages");
     let mut met: Met = [0; 20];
-    for _ in 0..2_000 {
-        run(&mut random, &mut met);
-    }
+    let absent = (0..2_000).filter(|_| run(&mut random, &mut met)).count();
     assert_met(met, &[0, 1, 3, 6, 8, 9, 12, 19], 30);
+    assert!(absent > 100, "{absent} runs of a phrase with an absent word");
 }
 
 /// Whole listings on pages of every size, each page after one that is turned down by its starts: every place of one document once, and no page reports more
@@ -919,7 +948,8 @@ fn wrapped_limits() {
     assert_eq!(documents.summary(&[0; 16]), Ok(vec![0; 5]));
     assert_eq!(documents.summary(&[0; 17]), Err(refused(Refusal::Phrase)));
     assert_eq!(documents.summary(&[]), Err(refused(Refusal::Phrase)));
-    assert_eq!(documents.summary(&[3]), Err(refused(Refusal::AskedRank)));
+    assert_eq!(documents.summary(&[3]), Ok(vec![0; 5]));
+    assert_eq!(documents.summary(&[4]), Err(refused(Refusal::AskedRank)));
     let documents = index.in_documents(&[0, 4]);
     let pages: Vec<_> = documents.pages(&[0], usize::MAX).map(|page| page.expect("the phrase is one").places).collect();
     assert_eq!(pages, [[1, 3, 4]]);

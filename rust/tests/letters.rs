@@ -1,4 +1,4 @@
-//! Letter tables that are lent: their check, and reading plain text and making word lists by them, against the reference.
+//! Letter tables that are lent: their check, and reading plain text, finding words and making word lists by them, against the reference.
 mod support;
 use concordance::entries::{self, Answer, ListMade};
 use concordance::{Letters, Refusal, Refused, WordList};
@@ -249,6 +249,7 @@ fn lengths() {
                 let expected = if length == 256 { 0 } else { 18 };
                 assert_eq!(check(&table), expected, "{length}");
                 assert_eq!(read(&table, b"a\n", b"a\xFE\xFFa", 1).refusal == 18, length != 256, "{length}");
+                assert_eq!(entries::find_word_with(&table, b"a\n", b"a"), reference::refused(expected), "{length}");
                 let made = make(&table, b"a", &reference::made(&table, b"a"), (2, 1));
                 assert_eq!(made.answer.refusal, expected, "{length}");
             }
@@ -288,23 +289,13 @@ fn random_tables() {
     assert!(any[0] > 500 && any[18] > 500 && met[0] + met[18] == 30_000, "{met:?}, {any:?}");
 }
 
-/// A random table, now and then one that breaks a rule.
-fn lent_table(random: &mut Random) -> Vec<u8> {
-    match random.below(10) {
-        0 => inputs::broken_table(random),
-        1 => inputs::any_table(random),
-        2 => reference::built_in(),
-        _ => inputs::letter_table(random),
-    }
-}
-
 /// Random texts read by random tables, through lists that keep the rules or break one, into slices that are long enough or not.
 #[test]
 fn random_texts() {
     let mut random = Random::of("random_texts");
     let mut met = [0; 19];
     for _ in 0..30_000 {
-        let table = lent_table(&mut random);
+        let table = inputs::lent_table(&mut random);
         let by = if reference::is_table(&table) { table.clone() } else { reference::built_in() };
         let text = inputs::text_by(&mut random, &by);
         let list = inputs::word_list(&mut random, &by, &text);
@@ -323,7 +314,7 @@ fn random_lists() {
     let mut random = Random::of("random_lists");
     let (mut met, mut otherwise) = ([0; 19], [0; 19]);
     for _ in 0..6_000 {
-        let table = lent_table(&mut random);
+        let table = inputs::lent_table(&mut random);
         let by = if reference::is_table(&table) { table.clone() } else { reference::built_in() };
         let text = inputs::text_by(&mut random, &by);
         let made = reference::made(&table, &text);
@@ -498,6 +489,7 @@ fn changed_since_checked() {
             let mut ranks = [MARK; 1];
             assert_eq!(entries::check_letters(table).refusal, refusal, "{byte:02X}");
             assert_eq!(entries::read_text_with(table, b"a\n", b"A", &mut ranks).refusal, refusal, "{byte:02X}");
+            assert_eq!(entries::find_word_with(table, b"a\n", b"A").refusal, refusal, "{byte:02X}");
             let made = entries::make_list_with(table, b"A", &mut [0; 2], &mut ranks);
             assert_eq!(made.answer.refusal, refusal, "{byte:02X}");
         }
@@ -560,7 +552,7 @@ fn long_list() {
     assert_eq!(read(&table, &capital, &text, 3_001), reference::refused(13));
 }
 
-/// Lists of the largest vocabulary and of one word more, which is refused by 1; by a broken table, both by 18.
+/// Lists of the largest vocabulary, by which a text is read and a word is found, and of one word more, which is refused by 1; by a broken table, both by 18.
 #[test]
 fn largest_list() {
     let table = other_digits();
@@ -568,8 +560,18 @@ fn largest_list() {
     let last = MAX_VOCABULARY as u32 - 1;
     let text = [spelled(MAX_VOCABULARY - 1, 0x90), spelled(0, 0x90)].join(&b'a');
     let broken = changed(table.clone(), &[(0x8F, 0)]);
-    for (expected, ranks) in [(reference::accepted(2), [last, 0, MARK]), (reference::refused(1), [MARK; 3])] {
+    let rank = reference::accepted(MAX_VOCABULARY - 1);
+    let absent = reference::accepted(MAX_VOCABULARY);
+    let above = reference::refused(1);
+    for (expected, ranks, found) in
+        [(reference::accepted(2), [last, 0, MARK], [rank, absent]), (above, [MARK; 3], [above, above])]
+    {
         let mut ours = [MARK; 3];
+        for (number, answer) in [MAX_VOCABULARY - 1, MAX_VOCABULARY].into_iter().zip(found) {
+            let spelling = spelled(number, 0x90);
+            assert_eq!(entries::find_word_with(&broken, &list, &spelling), reference::refused(18));
+            assert_eq!(entries::find_word_with(&table, &list, &spelling), answer);
+        }
         assert_eq!(entries::read_text_with(&broken, &list, &text, &mut ours), reference::refused(18));
         assert_eq!(ours, [MARK; 3]);
         assert_eq!(entries::read_text_with(&table, &list, &text, &mut ours), expected);

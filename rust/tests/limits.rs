@@ -39,8 +39,8 @@ fn most_words() {
     assert_eq!(index.words(), MAX_WORDS);
     let frequency = text.iter().filter(|&&word| word == 7).count();
     let last = text.iter().rposition(|&word| word == 7).unwrap();
-    let rare = MAX_VOCABULARY as u32 - 1;
-    let phrase = [rare, 100];
+    let (rare, absent) = (MAX_VOCABULARY as u32 - 1, MAX_VOCABULARY as u32);
+    let phrase = [rare, 100, absent];
     for (question, value) in [
         (Question::word_at(MAX_WORDS - 1), text[MAX_WORDS - 1] as usize),
         (Question::word_at(MAX_WORDS - 2), rare as usize),
@@ -50,6 +50,10 @@ fn most_words() {
         (Question::neighbours(100, rare, -1), 2),
         (Question::neighbours(rare, 100, 1), 2),
         (Question::phrase(0, 2), 2),
+        (Question::occurrences_below(absent, MAX_WORDS), 0),
+        (Question::neighbours(100, absent, 1), 0),
+        (Question::neighbours(absent, 100, -1), 0),
+        (Question::phrase(0, 3), 0),
     ] {
         assert_eq!(index.ask(&phrase, question), Ok(value), "{question:?}");
     }
@@ -57,13 +61,20 @@ fn most_words() {
         (Question::word_at(MAX_WORDS), 11),
         (Question::occurrences_below(7, MAX_WORDS + 1), 11),
         (Question::place_of(7, frequency + 1), 11),
+        (Question::occurrences_below(absent, MAX_WORDS + 1), 11),
+        (Question::place_of(absent, 1), 11),
+        (Question::occurrences_below(absent + 1, MAX_WORDS), 9),
+        (Question::neighbours(100, absent + 1, 1), 9),
     ] {
         assert_eq!(index.ask(&[], question).unwrap_err().refusal.number(), refusal, "{question:?}");
     }
     assert_eq!(index.passage(MAX_WORDS - 5, 5).unwrap(), text[MAX_WORDS - 5..]);
     assert_eq!(index.passage(MAX_WORDS, 0), Ok(vec![]));
-    let pages: Vec<_> = index.pages(&phrase, 1).map(|page| page.unwrap().places).collect();
+    let pages: Vec<_> = index.pages(&phrase[..2], 1).map(|page| page.unwrap().places).collect();
     assert_eq!(pages, [[5], [MAX_WORDS as u32 - 2]]);
+    let mut pages = index.pages(&phrase, 1);
+    assert_eq!(pages.next(), Some(Ok(Page { places: vec![], more: false })));
+    assert_eq!((pages.listing(), pages.next()), (Listing { next: MAX_WORDS, finished: true }, None));
 
     let stream = concordance::write_stream(MAX_VOCABULARY, &text).expect("the longest text is one");
     assert!(concordance::read_stream(&stream).expect("its stream is one") == text);
@@ -399,8 +410,8 @@ fn most_places() {
     assert_eq!((page.answer, page.more, page.listing), (reference::refused(11), false, state));
 }
 
-/// The longest text in one document, in two, of which the last has one word, in three, and in a document for each word; a start at its end, and one more than there
-/// are words, are refused by 19.
+/// The longest text in one document, in two, of which the last has one word, in three, and in a document for each word, where an absent word has as many zeros
+/// as there are words; a start at its end, and one more than there are words, are refused by 19.
 #[test]
 fn most_documents() {
     let places = [5, 6, MAX_WORDS / 2, MAX_WORDS - 2, MAX_WORDS - 1];
@@ -421,6 +432,8 @@ fn most_documents() {
     let found = counts.iter().enumerate().filter(|(_, &count)| count != 0);
     assert!(found.map(|(place, &count)| (place, count)).eq(places.map(|place| (place, 1))));
     assert_eq!(counts.len(), MAX_WORDS);
+    let counts = documents.summary(&[1, 2]).expect("2 is an absent word");
+    assert!(counts.len() == MAX_WORDS && counts.iter().all(|&count| count == 0));
     let sheet = [Question::phrase(0, 1), Question::phrase(0, 2), Question::phrase(0, 0), Question::neighbours(1, 1, 1)];
     let answers = [5, 0, MAX_WORDS as u32 + 1, 0].map(Ok);
     assert_eq!(documents.answer_sheet(&[1, 1], &sheet), Ok(answers.to_vec()));
@@ -439,7 +452,8 @@ fn list_of(words: usize) -> Vec<u8> {
     (0..words).flat_map(|number| format!("w{number}\n").into_bytes()).collect()
 }
 
-/// Word lists of no word, of one part and of more, of the largest vocabulary and of one word more.
+/// Word lists of no word, of one part and of more, of the largest vocabulary and of one word more: texts that are read through them, and spelled words that
+/// are found in them or that they lack.
 #[test]
 fn word_lists() {
     for (words, refusal) in [(0, 1), (1, 0), (65_535, 0), (65_536, 0), (MAX_VOCABULARY, 0), (MAX_VOCABULARY + 1, 1)] {
@@ -449,6 +463,11 @@ fn word_lists() {
         let mut ranks = [9; 4];
         let answer = entries::read_text(&list, &text, &mut ranks);
         assert_eq!(answer.refusal, refusal, "{words}");
+        for number in [0, words.saturating_sub(1), words] {
+            let found = entries::find_word(&list, format!("W{number}").as_bytes());
+            let expected = if refusal == 0 { reference::accepted(number) } else { reference::refused(refusal) };
+            assert_eq!(found, expected, "{number} of {words}");
+        }
         if refusal == 0 {
             assert_eq!((answer.value, ranks), (3, [asked[0] as u32, asked[1] as u32, asked[2] as u32, 9]));
             let mut unlisted = text.clone();
@@ -460,6 +479,7 @@ fn word_lists() {
             twice.extend_from_slice(b"w0\n");
             let expected = if words == MAX_VOCABULARY { 1 } else { 13 };
             assert_eq!(entries::read_text(&twice, &text, &mut [9; 4]).refusal, expected);
+            assert_eq!(entries::find_word(&twice, b"w0"), reference::refused(expected));
         }
     }
 }

@@ -41,7 +41,10 @@ fn bad(random: &mut Random, good: &Call) -> Call {
         0 => call.shape.vocabulary = random.one_of(&[0, reference::MAX_VOCABULARY + 1]),
         1 => call.shape.block = 0,
         2 => call.arrays.blocks[3] += 1,
-        3 if call.length > 0 => call.words[call.start] = call.shape.vocabulary as u32,
+        3 if call.length > 0 => {
+            let at = call.start + random.below(call.length);
+            call.words[at] = inputs::rank_above(random, call.shape.vocabulary);
+        }
         _ => {
             (call.start, call.length) = random.one_of(&[(call.start, 17), (past, 0), (usize::MAX, 0), (usize::MAX, 1)])
         }
@@ -49,7 +52,8 @@ fn bad(random: &mut Random, good: &Call) -> Call {
     call
 }
 
-/// A phrase of up to three words that stands in the text if it has a word, as the part of some words.
+/// A phrase of up to three words that stands in the text if it has a word, and now and then has a word that stands nowhere or an absent one, as the part of
+/// some words.
 fn good(random: &mut Random) -> (Call, Vec<u32>) {
     let vocabulary = inputs::vocabulary(random);
     let shape = inputs::shape(random, vocabulary);
@@ -62,12 +66,22 @@ fn good(random: &mut Random) -> (Call, Vec<u32>) {
     } else {
         words.extend((0..length).map(|_| random.below(vocabulary) as u32));
     }
+    if length > 0 && random.once_in(5) {
+        words[2 + random.below(length)] = vocabulary as u32;
+    }
     let arrays = reference::index(shape, &text);
     (Call { shape, arrays, words, start: 2, length }, text)
 }
 
-/// Each clause of demand 3, over one run of calls.
-fn run(random: &mut Random) {
+impl Call {
+    /// Whether a word of the phrase is absent.
+    fn has_absent(&self) -> bool {
+        inputs::part_has_absent(self.shape.vocabulary, &self.words, (self.start, self.length))
+    }
+}
+
+/// Each clause of demand 3, over one run of calls; whether a word of the phrase is absent.
+fn run(random: &mut Random) -> bool {
     let (good, text) = good(random);
     let phrase = good.words[good.start..].to_vec();
     let all = reference::places(&text, &phrase);
@@ -104,20 +118,21 @@ fn run(random: &mut Random) {
         assert_eq!(entries::passage(good.shape, good.arrays.slices(), place, &mut passage).refusal, 0);
         assert_eq!(passage, phrase);
     }
+    good.has_absent()
 }
 
 #[test]
 fn runs_of_pages() {
     let mut random = Random::of("runs_of_pages");
-    for _ in 0..4_000 {
-        run(&mut random);
-    }
+    let absent = (0..4_000).filter(|_| run(&mut random)).count();
+    assert!(absent > 300, "{absent} runs of a phrase with an absent word");
 }
 
 /// Pages over any state, also one that no listing has.
 #[test]
 fn pages_of_any_state() {
     let mut random = Random::of("pages_of_any_state");
+    let mut absent = 0;
     for _ in 0..10_000 {
         let (mut call, text) = good(&mut random);
         if random.once_in(6) {
@@ -134,15 +149,17 @@ fn pages_of_any_state() {
             _ => random.below(text.len() + 1),
         };
         let lines = random.below(5);
-        page(Listing { next, finished: random.once_in(3) }, &call, lines);
+        let (got, _) = page(Listing { next, finished: random.once_in(3) }, &call, lines);
+        absent += usize::from(got.answer.refusal == 0 && call.has_absent());
     }
+    assert!(absent > 500, "{absent} pages of a phrase with an absent word");
 }
 
-/// A call that lists the phrase of no words in a text of so many words: the empty part at the end of two words that are not below V.
+/// A call that lists the phrase of no words in a text of so many words: the empty part at the end of two words that are above V.
 fn no_words(words: usize) -> Call {
     let shape = Shape { vocabulary: 130, block: 5, per_superblock: 3 };
     let text: Vec<u32> = (0..words).map(|place| place as u32 % 130).collect();
-    Call { shape, arrays: reference::index(shape, &text), words: vec![130, u32::MAX], start: 2, length: 0 }
+    Call { shape, arrays: reference::index(shape, &text), words: vec![131, u32::MAX], start: 2, length: 0 }
 }
 
 /// The page of the phrase of no words that a text of n words has from a state on, and the places on it.
@@ -207,8 +224,8 @@ fn listings_of_no_words() {
     }
 }
 
-/// Several faults at once in a page of the phrase of no words: the first of 1, 3, 6, 8, 11 and 12 answers, and never 9, although no word that
-/// is lent is below V; the state comes back, and nothing is written.
+/// Several faults at once in a page of the phrase of no words: the first of 1, 3, 6, 8, 11 and 12 answers, and never 9, although every word that
+/// is lent is above V; the state comes back, and nothing is written.
 #[test]
 fn order_of_refusals() {
     for (faults, finished) in (0..64).flat_map(|faults| [(faults, false), (faults, true)]) {

@@ -44,10 +44,11 @@ impl Lent {
     }
 }
 
+/// Questions of every kind, about absent words and about ranks above V too.
 #[test]
 fn ask() {
     let mut random = Random::of("ask");
-    let mut accepted = 0;
+    let (mut accepted, mut absent, mut above) = (0, [0; 6], [0; 6]);
     for _ in 0..3_000 {
         let mut lent = lent(&mut random);
         for _ in 0..12 {
@@ -57,9 +58,18 @@ fn ask() {
             let expected = reference::ask(lent.shape, &lent.arrays, &lent.words, question);
             assert_eq!(answer, expected, "{question:?}, {lent:?}");
             accepted += usize::from(answer.refusal == 0);
+            if answer.refusal == 9 {
+                above[question.kind as usize] += 1;
+            }
+            let of_index = [1, 3, 6].contains(&answer.refusal);
+            if !of_index && inputs::asks_about_absent(lent.shape.vocabulary, &lent.words, question) {
+                assert_eq!(answer.value, 0, "{question:?}, {lent:?}");
+                absent[question.kind as usize] += 1;
+            }
         }
     }
     assert!(accepted > 5_000, "{accepted} accepted");
+    assert!(absent[2..].iter().chain(&above[2..]).all(|&times| times > 80), "{absent:?} absent, {above:?} above V");
 }
 
 /// Counts of the phrase of no words, alone and in a sheet, at every start up to one past the lent words and far beyond: there are as many
@@ -72,7 +82,7 @@ fn phrases_of_no_words() {
     for _ in 0..1_500 {
         let mut lent = lent(&mut random);
         if random.once_in(2) {
-            lent.words.fill(lent.vocabulary as u32);
+            lent.words.fill(lent.vocabulary as u32 + random.below(2) as u32);
         }
         let checked = entries::check(lent.shape, lent.slices());
         let starts = (0..=lent.words.len() + 1).chain([1 << 32, 1 << 63, usize::MAX - 1, usize::MAX]);
@@ -102,12 +112,12 @@ fn phrases_of_no_words() {
     assert!(drawn.iter().all(|&times| times > 20), "{drawn:?}");
 }
 
-/// Several faults at once in a question about the phrase of no words: the first of 1, 3, 6, 7 and 8 answers, and never 9, although no word
-/// that is lent is below V. In a sheet 7 and 8 go into the pair, and 12 is tried after 6.
+/// Several faults at once in a question about the phrase of no words: the first of 1, 3, 6, 7 and 8 answers, and never 9, although every word
+/// that is lent is above V. In a sheet 7 and 8 go into the pair, and 12 is tried after 6.
 #[test]
 fn order_of_refusals() {
     let good = Shape { vocabulary: 2, block: 4, per_superblock: 2 };
-    let words = [2, u32::MAX];
+    let words = [3, u32::MAX];
     for faults in 0..64 {
         let [no_vocabulary, no_blocks, damaged, no_kind, outside, short] =
             [0, 1, 2, 3, 4, 5].map(|fault| faults >> fault & 1 == 1);
@@ -120,7 +130,7 @@ fn order_of_refusals() {
         };
         let kind = if no_kind { 6 } else { 5 };
         let start = if outside { words.len() + 1 } else { words.len() };
-        let question = Question { kind, w: 2, v: 2, d: 17, p: usize::MAX, start, length: 0 };
+        let question = Question { kind, w: 3, v: 3, d: 17, p: usize::MAX, start, length: 0 };
         let of_index = reference::first_of(&[(no_vocabulary, 1), (no_blocks, 3), (damaged, 6)]);
         let of_question = reference::first_of(&[(no_kind, 7), (outside, 8)]);
         let refusal = if of_index == 0 { of_question } else { of_index };

@@ -1,4 +1,5 @@
-// The answers to questions about an index that has passed the check, kind by kind.
+// The answers to questions about an index that has passed the check, kind by kind. An absent word, whose
+// rank is the vocabulary's size, is looked for nowhere: the text has no rank that is not below it.
 //
 // No function of this crate is an entry: each requires what its callers have tested.
 ghost use mathlib.Core.Path.{_≡_};
@@ -62,11 +63,14 @@ fn answer_occurrences(
     requires { λ a. ⌜ Ready s shape a (now starts) ⌝ }
     ensures { λ a r. ⌜ r ≡ occurrencesAnswer (shape .vocabulary) (textIn s a) rank place ⌝ }
 {
-    if shape.vocabulary <= rank {
+    if shape.vocabulary < rank {
         return Answer::refused(refusal::ASKED_RANK);
     }
     if words::text_length(lengths) < place {
         return Answer::refused(refusal::PLACE);
+    }
+    if rank == shape.vocabulary {
+        return Answer::accepted(0);
     }
     Answer::accepted(words::occurrences_below(
         s,
@@ -98,8 +102,11 @@ fn answer_place(
     requires { λ a. ⌜ Ready s shape a (now starts) ⌝ }
     ensures { λ a r. ⌜ r ≡ placeAnswer (shape .vocabulary) (textIn s a) rank p ⌝ }
 {
-    if shape.vocabulary <= rank {
+    if shape.vocabulary < rank {
         return Answer::refused(refusal::ASKED_RANK);
+    }
+    if rank == shape.vocabulary {
+        return Answer::refused(refusal::PLACE);
     }
     if p < 1 {
         return Answer::refused(refusal::PLACE);
@@ -156,10 +163,10 @@ fn answer_neighbours(
     requires { λ a. ⌜ Ready s shape a (now starts) × (isAscending (now documents) ≡ true) ⌝ }
     ensures { λ a r. ⌜ r ≡ neighboursAnswer (shape .vocabulary) (textIn s a) (now (documents .entry)) w v offset ⌝ }
 {
-    if shape.vocabulary <= w as usize {
+    if shape.vocabulary < w as usize {
         return Answer::refused(refusal::ASKED_RANK);
     }
-    if shape.vocabulary <= v as usize {
+    if shape.vocabulary < v as usize {
         return Answer::refused(refusal::ASKED_RANK);
     }
     if offset < -Question::MAX_OFFSET {
@@ -167,6 +174,12 @@ fn answer_neighbours(
     }
     if Question::MAX_OFFSET < offset {
         return Answer::refused(refusal::OFFSET);
+    }
+    if w as usize == shape.vocabulary {
+        return Answer::accepted(0);
+    }
+    if v as usize == shape.vocabulary {
+        return Answer::accepted(0);
     }
     Answer::accepted(counts::neighbours(
         s,
@@ -208,6 +221,9 @@ fn answer_phrase(
     let refused = phrase_checks::phrase_refusal(shape.vocabulary, words, start, count);
     if refused != 0 {
         return Answer::refused(refused);
+    }
+    if phrase_checks::has_absent(shape.vocabulary, words, start, count) {
+        return Answer::accepted(0);
     }
     let end = start + count;
     Answer::accepted(counts::count_phrase(

@@ -25,6 +25,7 @@
 //     page START LENGTH SIZE     a page of the listing
 //     list BYTES                 the word list; \ and two hexadecimal digits stand for any byte
 //     text SIZE BYTES            reads plain text through the list
+//     known BYTES                finds a spelled word in the list
 //     from LIST RANKS BYTES      makes a word list of plain text, in slices of so many bytes and ranks
 //     iterate LIST RANKS SIZE BYTES   makes one of so many bytes: those given, over and over again
 //     unique LIST RANKS COUNT    makes one of so many words that stand once each

@@ -241,6 +241,16 @@ fn text(state: State, line: &[u8], numbers: Numbers) {
     );
 }
 
+// Finds the word that a line spells in the word list.
+fn known(state: State, line: &[u8]) {
+    let list = state.list;
+    let spelled = given::spelled_by(line, 1);
+    printing::answered(finding::find_word(
+        small_indexes::front_bytes(&list, state.size),
+        small_indexes::front_bytes(&spelled.bytes, spelled.count),
+    ));
+}
+
 // Makes the call of a line, if it is one of these, and prints what came of it.
 pub fn show(state: State, line: &[u8], numbers: Numbers) {
     if line.len() == 0 {
@@ -259,6 +269,7 @@ pub fn show(state: State, line: &[u8], numbers: Numbers) {
         b'e' => encode(numbers),
         b'd' => decode(numbers),
         b't' => text(state, line, numbers),
+        b'k' => known(state, line),
         _ => {}
     }
 }

@@ -8,18 +8,18 @@ use borrow.Author.Tests.{le-ltb}
 use lib.Dec.{ltb}
 use lib.ListN.{length, drop, length-take, length-drop}
 use Rattle.base.specs.declared.Answer.{Answer}
-use Rattle.base.specs.Lists.{Below}
+use Rattle.base.specs.Lists.{All, allPass}
 use Rattle.base.specs.Answers.{accepted, isAccepted, NoneHolds, filled}
-use Rattle.base.specs.Texts.{maxPhrase, ranksBelow}
+use Rattle.base.specs.Texts.{maxPhrase}
 use Rattle.base.proofs.Tests.{or-false}
 use Rattle.base.proofs.Answers.{answers}
-use Rattle.base.proofs.Texts.{test-of-below}
 use Rattle.index.specs.declared.Shape.{Shape}
 use Rattle.index.specs.Arrays.{Arrays, textIn}
 use Rattle.index.specs.Entries.{checkAnswer}
 use Rattle.documents.specs.Documents.{areStarts, standsIn}
 use Rattle.pages.specs.Runs.{IsPage}
-use Rattle.questions.specs.Answering.{phraseIn, phraseCases, phraseRefusal, rankAskedCase}
+use Rattle.questions.specs.Answering.{isAskable, phraseIn, phraseCases, phraseRefusal, rankAskedCase}
+use Rattle.questions.proofs.Askable.{askable-all}
 use Rattle.questions.proofs.Checks.{check-in-passed}
 use Rattle.listing.specs.declared.Listing.{Listing}
 use Rattle.listing.specs.Paging.{Call, callText, callPhrase, callPage, pageAnswer, pageOf}
@@ -41,26 +41,26 @@ own-page call state h =
       sliceIs = rw h;
     }
 
--- no test of a phrase of the vocabulary holds that lies in the lent words
-pub phrase-tests : (vocab : ℕ) (words : List ℕ) (start len : ℕ) (phrase : List ℕ) → IsPart words start len phrase → length phrase ≤ maxPhrase → Below vocab phrase
+-- no test of a phrase without a rank above V holds that lies in the lent words
+pub phrase-tests : (vocab : ℕ) (words : List ℕ) (start len : ℕ) (phrase : List ℕ) → IsPart words start len phrase → length phrase ≤ maxPhrase → All (λ (w : ℕ). w ≤ vocab) phrase
     → NoneHolds (phraseCases vocab words start len)
 unfolding phraseCases rankAskedCase phraseIn
-phrase-tests vocab words start len phrase part most below =
+phrase-tests vocab words start len phrase part most asked =
     let n : length phrase ≡ len = ap length (sym (part .isPhrase)) ∙ length-take len (drop start words) ∙ omega (arith, length-drop start words, part .inside) in (
       or-false (ltb maxPhrase len) (ltb (length words) (start + len)) (le-ltb maxPhrase len (omega arith)) (le-ltb (length words) (start + len) (part .inside)),
-      (ap not (ap (ranksBelow vocab) (part .isPhrase) ∙ test-of-below vocab phrase below), tt),
+      (ap not (ap (allPass (isAskable vocab)) (part .isPhrase) ∙ askable-all vocab phrase asked), tt),
     )
 
 -- a call that brings the phrase, arrays that pass and starts that keep the rules is accepted over a state whose next place is not above n,
 -- with a page of one line or more
 module _ (s : ℕ) (shape : Shape) (a : Arrays) (documents phrase : List ℕ) (passed : checkAnswer s shape a ≡ accepted 0) (keep : areStarts (length (textIn s a)) documents ≡ true)
-    (most : length phrase ≤ maxPhrase) (below : Below (shape .vocabulary) phrase) where
+    (most : length phrase ≤ maxPhrase) (asked : All (λ (w : ℕ). w ≤ shape .vocabulary) phrase) where
   pub call-accepted : (call : Call) (state : Listing) → Brings s shape a documents phrase call → 1 ≤ length (call .lines) → state .next ≤ length (textIn s a) → isAccepted (pageAnswer call state) ≡ true
   unfolding phraseRefusal
   call-accepted call state b lines inside =
       let none : phraseRefusal (call .shape .vocabulary) (call .words) (call .start) (call .len) ≡ 0 =
       ap (λ (x : Answer). x .refusal) (answers (phraseCases (call .shape .vocabulary) (call .words) (call .start) (call .len)) (accepted 0)
-      (rw (b .sameShape) (phrase-tests (shape .vocabulary) (call .words) (call .start) (call .len) phrase (b .samePhrase) most below))) in
+      (rw (b .sameShape) (phrase-tests (shape .vocabulary) (call .words) (call .start) (call .len) phrase (b .samePhrase) most asked))) in
       ap isAccepted (taken call state
       (rw (b .sameClosing, b .sameShape, b .sameArrays, b .sameDocuments) (ap (λ (x : Answer). x .refusal) (check-in-passed s shape a documents passed keep)))
       (ap (λ (x : Answer). x .refusal)

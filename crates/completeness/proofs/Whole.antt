@@ -2,15 +2,17 @@
 use Prim.Native.Nat.{ℕ, _+_, _≤_, _<_}
 use mathlib.Core.Path.{_≡_, refl, ap, ap₂, subst₂, _∙_}
 use mathlib.Core.Logic.{_↔_}
-use mathlib.Core.Bool.{Bool, true}
+use mathlib.Core.Bool.{Bool, true, false}
 use mathlib.Core.List.{List, _∷_, _++_}
 use native.Mathlib.Omega.{arith}
+use borrow.Author.Tests.{eqb-true}
 use lib.ListN.{length, take, drop, getD, length-take, length-drop}
 use lib.Seq.{ext-getD, getD-take, getD-drop}
-use Rattle.base.specs.Lists.{Below}
-use Rattle.base.specs.Answers.{accepted}
+use Rattle.base.specs.Lists.{All}
+use Rattle.base.specs.Answers.{accepted, front}
 use Rattle.base.specs.Texts.{maxPhrase}
 use Rattle.base.proofs.Answers.{answers}
+use Rattle.base.proofs.Fronts.{front-none}
 use Rattle.base.proofs.Members.{getD-mem}
 use Rattle.base.proofs.Tests.{false-of}
 use Rattle.dense.specs.Code.{Closing}
@@ -21,9 +23,11 @@ use Rattle.index.proofs.Refusals.{check-limits}
 use Rattle.index.proofs.Exact.{index-exact}
 use Rattle.phrases.proofs.Exact.{places-are-exact}
 use Rattle.documents.specs.Documents.{areStarts, documentOf, standsIn, placesIn}
+use Rattle.documents.specs.Absent.{AbsentWord}
+use Rattle.documents.proofs.Absent.{absent-words}
 use Rattle.documents.proofs.Exact.{documents-are-exact}
-use Rattle.pages.specs.Runs.{CompleteRun, IsPage, IsListing}
-use Rattle.pages.proofs.Pages.{page-within}
+use Rattle.pages.specs.Runs.{CompleteRun, IsPage, IsListing, stateAfter}
+use Rattle.pages.proofs.Pages.{page-none, page-within}
 use Rattle.pages.proofs.Complete.{every-run-complete}
 use Rattle.questions.specs.declared.Question.{Question}
 use Rattle.questions.specs.Answering.{askAnswerIn, questionAnswer, phraseAnswer, phraseIn, phraseCases}
@@ -40,7 +44,7 @@ abbrev stateOf : ℕ → Bool → Listing
 stateOf next finished = record { next = next; finished = finished }
 
 module _ (s : ℕ) (shape : Shape) (a : Arrays) (documents phrase : List ℕ) (within : Closing s) (passed : checkAnswer s shape a ≡ accepted 0)
-    (keep : areStarts (length (textIn s a)) documents ≡ true) (most : length phrase ≤ maxPhrase) (below : Below (shape .vocabulary) phrase) where
+    (keep : areStarts (length (textIn s a)) documents ≡ true) (most : length phrase ≤ maxPhrase) (asked : All (λ (w : ℕ). w ≤ shape .vocabulary) phrase) where
   abbrev text : List ℕ
   text = textIn s a
 
@@ -58,7 +62,7 @@ module _ (s : ℕ) (shape : Shape) (a : Arrays) (documents phrase : List ℕ) (w
         (rw (b .sameDocuments, b .sameClosing, b .sameArrays, b .samePhrase .isPhrase)) (ap length (ap₂ textIn (b .sameClosing) (b .sameArrays)))
         (own-page call state h);
     keeps = λ call state k b h. tt;
-    accepts = λ call state k b l h. call-accepted s shape a documents phrase passed keep most below call state b l h;
+    accepts = λ call state k b l h. call-accepted s shape a documents phrase passed keep most asked call state b l h;
   }
 
   -- the count is accepted, and is the number of all places
@@ -67,7 +71,7 @@ module _ (s : ℕ) (shape : Shape) (a : Arrays) (documents phrase : List ℕ) (w
   count-of-all words q k part =
       ask-in-passed s shape a documents words q passed keep
       ∙ rw k (answers (phraseCases (shape .vocabulary) words (q .start) (q .length)) (accepted (length (placesIn documents text (phraseIn words (q .start) (q .length)))))
-      (phrase-tests (shape .vocabulary) words (q .start) (q .length) phrase part most below)
+      (phrase-tests (shape .vocabulary) words (q .start) (q .length) phrase part most asked)
       ∙ ap (λ (p : List ℕ). accepted (length (placesIn documents text p))) (part .isPhrase))
 
   -- inside one document the phrase stands word for word, and each word lies in the document of the first
@@ -99,6 +103,10 @@ module _ (s : ℕ) (shape : Shape) (a : Arrays) (documents phrase : List ℕ) (w
             getD-take (length phrase) (drop q text) j 0 h ∙ getD-drop q text j 0 ∙ at .1 j h .0),
       )
 
+  -- the word V stands nowhere in the text
+  absent : AbsentWord (shape .vocabulary) documents text
+  absent = absent-words (shape .vocabulary) documents text (index-exact s shape within .rebuilt a passed .text .ranks)
+
   module _ (calls : List Call) (bring : (before : List Call) (call : Call) (after : List Call) → before ++ call ∷ after ≡ calls → isPage (resultAfter before call) ≡ true → Brings s shape a documents phrase call) where
     run : CompleteRun outcomeOf (λ (st : Listing). st .next) (λ (st : Listing). st .finished) (λ (c : Call). c .lines) (Brings s shape a documents phrase) hit (length text) opened calls
     run =
@@ -108,6 +116,24 @@ module _ (s : ℕ) (shape : Shape) (a : Arrays) (documents phrase : List ℕ) (w
     -- the phrase stands inside one document at each place found
     found-stands : (i : ℕ) → i < length (foundBy calls) → hit (getD (foundBy calls) i 0) ≡ true
     found-stands i l = run .sound (getD (foundBy calls) i 0) (getD-mem (foundBy calls) i l) .1
+
+    -- an accepted page of a phrase with an absent word writes nothing and is the last
+    absent-finished : (before : List Call) (call : Call) (after : List Call) → before ++ call ∷ after ≡ calls → isPage (resultAfter before call) ≡ true
+        → (i : ℕ) → i < length phrase → getD phrase i 0 ≡ shape .vocabulary
+        → (resultAfter before call .page .answer ≡ accepted 0) × (resultAfter before call .lines ≡ call .lines)
+        × (resultAfter before call .page .more ≡ false) × (resultAfter before call .page .listing ≡ stateOf (length text) true)
+    absent-finished before call after e h i l q =
+        let st : Listing = stateAfter outcomeOf opened before in
+        let none : (p : ℕ) → hit p ≡ false = absent .stands phrase i l q in
+        let page = is-listing .page call st tt (bring before call after e h) h in
+        let nothing = page-none hit none (length text) (length (call .lines)) (st .next) (st .finished) in
+        let last = run .noHits before call after e h (λ p k. none p) .noMore in
+        let end = run .endState before call after e record { accepted = h; noMore = last } in (
+          λ k. record { refusal = eqb-true (resultAfter before call .page .answer .refusal) 0 h k; value = (page .valueIs ∙ ap length nothing) k },
+          page .sliceIs ∙ ap (λ (xs : List ℕ). front xs (call .lines)) nothing ∙ front-none (call .lines),
+          last,
+          ap₂ stateOf (end .1) (end .0),
+        )
 
     pub whole : Complete s shape a documents phrase text calls
     unfolding placesIn
@@ -135,10 +161,12 @@ module _ (s : ℕ) (shape : Shape) (a : Arrays) (documents phrase : List ℕ) (w
       pageAccepted = run .pageAccepted;
       countOfAll = count-of-all;
       passageIsPhrase = λ i l z n. passage-is-phrase (getD (foundBy calls) i 0) (found-stands i l) z n;
+      absentNowhere = absent .nowhere phrase;
+      absentFinished = absent-finished;
     }
 
 pub listing-complete : ListingComplete
-listing-complete s shape a documents phrase within passed keep most below calls bring = whole s shape a documents phrase within passed keep most below calls bring
+listing-complete s shape a documents phrase within passed keep most asked calls bring = whole s shape a documents phrase within passed keep most asked calls bring
 
 -- an accepted page is one over the places of its text, of which none is above n
 pub next-within : NextWithin

@@ -5,7 +5,7 @@ use mathlib.Core.Logic.{_↔_}
 use mathlib.Core.Bool.{Bool, true, false, cond}
 use mathlib.Core.List.{List, [], _∷_, _++_, List·Memᴰ}
 use lib.ListN.{length, take, getD}
-use Rattle.base.specs.Lists.{Below, rangeFrom, countOf}
+use Rattle.base.specs.Lists.{All, rangeFrom, countOf}
 use Rattle.base.specs.Answers.{accepted, isAccepted}
 use Rattle.base.specs.Texts.{maxPhrase}
 use Rattle.dense.specs.Code.{Closing}
@@ -137,15 +137,24 @@ pub record Complete (s : ℕ) (shape : Shape) (a : Arrays) (documents phrase t :
       (i : ℕ) → i < length (foundBy calls) → (z : List ℕ) → length z ≡ length phrase →
       (passageAnswer s shape a (getD (foundBy calls) i 0) z ≡ accepted (length phrase))
       × (passageExit s shape a (getD (foundBy calls) i 0) z ≡ phrase)
+  -- a phrase with an absent word, whose rank is V, stands nowhere
+  pub absentNowhere : (i : ℕ) → i < length phrase → getD phrase i 0 ≡ shape .vocabulary → placesIn documents t phrase ≡ []
+  -- and its listing finishes on its first page: each accepted page writes nothing, leaves its slice, reports the end, and hands back a
+  -- finished state with next n
+  pub absentFinished :
+      (before : List Call) (call : Call) (after : List Call) → before ++ call ∷ after ≡ calls →
+      isPage (resultAfter before call) ≡ true → (i : ℕ) → i < length phrase → getD phrase i 0 ≡ shape .vocabulary →
+      (resultAfter before call .page .answer ≡ accepted 0) × (resultAfter before call .lines ≡ call .lines)
+      × (resultAfter before call .page .more ≡ false) × (resultAfter before call .page .listing ≡ record { next = length t; finished = true })
 
 -- Statement of demand 3, at every number of closing values: for arrays that pass the check, document starts that keep the rules, those of
--- a text that is one document too, one phrase of up to 16 words of the vocabulary, or of no words, and every list of page calls, the empty
--- one too, of which the accepted ones bring that phrase, those arrays and those starts, the refused ones anything.
+-- a text that is one document too, one phrase of up to 16 words, each of the vocabulary or absent, or of no words, and every list of page
+-- calls, the empty one too, of which the accepted ones bring that phrase, those arrays and those starts, the refused ones anything.
 abbrev pub ListingComplete : Type 0
 ListingComplete =
     (s : ℕ) (shape : Shape) (a : Arrays) (documents phrase : List ℕ) → Closing s →
     checkAnswer s shape a ≡ accepted 0 → areStarts (length (textIn s a)) documents ≡ true →
-    length phrase ≤ maxPhrase → Below (shape .vocabulary) phrase →
+    length phrase ≤ maxPhrase → All (λ (w : ℕ). w ≤ shape .vocabulary) phrase →
     (calls : List Call) →
     ((before : List Call) (call : Call) (after : List Call) → before ++ call ∷ after ≡ calls →
     isPage (resultAfter before call) ≡ true → Brings s shape a documents phrase call) →

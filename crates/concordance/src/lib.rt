@@ -16,9 +16,10 @@ ghost use Rattle.listing.specs.Paging.{opened, callOf, pageOf};
 ghost use Rattle.summaries.specs.Summaries.{summaryAnswer, summaryExit};
 ghost use Rattle.lexicon.specs.Letters.{letters};
 ghost use Rattle.lexicon.specs.Reading.{readTextAnswer, readTextExit};
+ghost use Rattle.finding.specs.Finding.{findWordAnswer};
 ghost use Rattle.list_calls.specs.Making.{listMade, makeListExit, makeRanksExit};
 ghost use Rattle.lexicon.specs.Tables.{tableAnswer};
-ghost use Rattle.lent_tables.specs.Calls.{readTextWithAnswer, readTextWithExit, listMadeWith, makeListWithExit, makeRanksWithExit};
+ghost use Rattle.lent_tables.specs.Calls.{readTextWithAnswer, readTextWithExit, findWordWithAnswer, listMadeWith, makeListWithExit, makeRanksWithExit};
 ghost use Rattle.sheet_calls.specs.Sheets.{sheetAnswer, sheetExit};
 use base::Answer;
 use index::Shape;
@@ -379,6 +380,16 @@ pub extern "C" fn concordance_read_text(list: &[u8], text: &[u8], ranks: &mut [u
     plain_text::read_text(list, text, ranks)
 }
 
+// Finds a spelled word, folded by the letter table, in a word list: it answers its rank, and the number
+// of the list's words where the list lacks it, as it lacks an empty spelling and one with a
+// separator. Refusals 1 and 13.
+#[no_mangle]
+pub extern "C" fn concordance_find_word(list: &[u8], spelling: &[u8]) -> Answer
+    ensures { λ r. ⌜ r ≡ findWordAnswer letters (now (list .entry)) (now (spelling .entry)) ⌝ }
+{
+    finding::find_word(list, spelling)
+}
+
 // Makes a word list of a plain text, whose words are folded by the letter table: the list of its
 // distinct words, most frequent first and equal ones by first appearance, to the front of one slice,
 // and the rank of each word of the text to the front of the other. It gives how many elements of
@@ -412,6 +423,16 @@ pub extern "C" fn concordance_read_text_with(
     ensures { λ r. ⌜ (r ≡ readTextWithAnswer (now (table .entry)) (now (list .entry)) (now (text .entry)) (now (ranks .entry))) × (now (ranks .exit) ≡ readTextWithExit (now (table .entry)) (now (list .entry)) (now (text .entry)) (now (ranks .entry))) ⌝ }
 {
     lent_tables::read_text_with(table, list, text, ranks)
+}
+
+// Finds a spelled word, folded by the lent table, in a word list: it answers its rank, and the number
+// of the list's words where the list lacks it, as it lacks an empty spelling and one with a
+// separator. Refusals 18, then 1 and 13, by the lent table.
+#[no_mangle]
+pub extern "C" fn concordance_find_word_with(table: &[u8], list: &[u8], spelling: &[u8]) -> Answer
+    ensures { λ r. ⌜ r ≡ findWordWithAnswer (now (table .entry)) (now (list .entry)) (now (spelling .entry)) ⌝ }
+{
+    lent_tables::find_word_with(table, list, spelling)
 }
 
 // Makes a word list of a plain text, whose words are folded by the lent table: the list to the front

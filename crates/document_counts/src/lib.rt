@@ -19,7 +19,7 @@ use matching::Sought;
 use tree::Place;
 
 // Writes 0 to the first so many elements of a slice.
-fn clear_counts(counts: &mut [u32], size: usize)
+pub fn clear_counts(counts: &mut [u32], size: usize)
     requires { ⌜ size ≤ length (now counts) ⌝ }
     ensures { λ _. ⌜ now (counts .exit) ≡ front (map (λ k. 0) (rangeFrom 0 size)) (now (counts .entry)) ⌝ }
 {

@@ -233,6 +233,27 @@ fn list_places() {
     end(b"not 5: the count is unlike the listing");
 }
 
+// Lists a phrase with a word that nobody used, whose rank is V, and counts it.
+fn list_absent() {
+    let small = SmallIndex::of(8, &[7; 4], 1, 4);
+    let mut lines = [9u32; 1];
+    let page = small.page(Listing::open(), &[7, 8], 0, 2, &mut lines);
+    start(b"The places of 7 8 there, where V is 8, so that 8 is a word that nobody used");
+    value(page.answer);
+    if page.more {
+        printing::words(b" and more");
+    } else {
+        printing::words(b" and the end");
+    }
+    end(b"refused, or not 0 and the end: an absent word is taken for a fault or for another word");
+    start(b"How often it is counted");
+    value(small.ask(&[7, 8], Question::phrase(0, 2)));
+    end(b"not 0: the count is unlike the listing");
+    start(b"How often 7 9 is counted");
+    refused(small.ask(&[7, 9], Question::phrase(0, 2)));
+    end(b"not 9: a rank above V is taken for a word");
+}
+
 // Lists the phrase 7 7 in a text of two documents, and counts it in both together and in each.
 fn list_in_documents() {
     let small = SmallIndex::of(8, &[7; 4], 1, 4);
@@ -313,6 +334,12 @@ fn make_list() {
     printing::number(made.words);
     printing::words(b" words");
     end(b"not 0 1 1 0 2 and 5: the ranks are not those of the list");
+    start(b"The rank of the word that is spelled B in that list");
+    value(finding::find_word(&list, b"B"));
+    end(b"not 1: a spelling is not folded, or found at another place");
+    start(b"That of D, which is not in the list of 3 words");
+    value(finding::find_word(&list, b"D"));
+    end(b"not 3: a word that nobody used is refused, or taken for another");
 }
 
 fn main() {
@@ -327,6 +354,7 @@ fn main() {
     read_passage();
     list_phrase();
     list_places();
+    list_absent();
     list_in_documents();
     count_words();
 }

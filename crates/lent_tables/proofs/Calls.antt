@@ -10,9 +10,10 @@ use Rattle.base.proofs.Answers.{filled-not}
 use Rattle.lexicon.specs.Letters.{isTable}
 use Rattle.lexicon.specs.Reading.{textRanks, readTextAnswer, readTextExit}
 use Rattle.lexicon.proofs.Tables.{table-broken, table-kept}
+use Rattle.finding.specs.Finding.{findWordAnswer}
 use Rattle.list_calls.specs.declared.ListMade.{ListMade}
 use Rattle.list_calls.specs.Making.{madeList, madeRanks, makeListAnswer, listMadeBy, listMade, makeListExit, makeRanksExit}
-use Rattle.lent_tables.specs.Calls.{readTextWithAnswer, readTextWithExit, makeListWithAnswer, listMadeWith, makeListWithExit, makeRanksWithExit}
+use Rattle.lent_tables.specs.Calls.{readTextWithAnswer, readTextWithExit, findWordWithAnswer, makeListWithAnswer, listMadeWith, makeListWithExit, makeRanksWithExit}
 use Rattle.lent_tables.specs.Tables.{ReadsAs, MakesAs}
 
 module _ (table : List ℕ) where
@@ -23,6 +24,11 @@ module _ (table : List ℕ) where
     reads-refused list text z =
         let r = table-broken table (readTextAnswer table list text z) e in
         (r, filled-not (readTextWithAnswer table list text z) (textRanks table list text) z (ap isAccepted r))
+
+    -- a word found with one
+    pub finds-refused : (list spelling : List ℕ) → findWordWithAnswer table list spelling ≡ refused refusalTable
+    unfolding findWordWithAnswer
+    finds-refused list spelling = table-broken table (findWordAnswer table list spelling) e
 
     -- a list made with one
     pub makes-refused : (text y z : List ℕ)
@@ -50,6 +56,11 @@ module _ (table : List ℕ) where
     reads-as list text z =
         let r = table-kept table (readTextAnswer table list text z) e in
         record { answered = r; written = ap (λ (a : Answer). filled a (textRanks table list text) z) r }
+
+    -- a word found with one
+    pub finds-as : (list spelling : List ℕ) → findWordWithAnswer table list spelling ≡ findWordAnswer table list spelling
+    unfolding findWordWithAnswer
+    finds-as list spelling = table-kept table (findWordAnswer table list spelling) e
 
     -- a list made with one
     pub makes-as : (text y z : List ℕ) → MakesAs table text y z

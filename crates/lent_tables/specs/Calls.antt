@@ -5,6 +5,7 @@ use Rattle.base.specs.declared.Answer.{Answer}
 use Rattle.base.specs.Answers.{filled}
 use Rattle.lexicon.specs.Tables.{withTable}
 use Rattle.lexicon.specs.Reading.{textRanks, readTextAnswer}
+use Rattle.finding.specs.Finding.{findWordAnswer}
 use Rattle.list_calls.specs.declared.ListMade.{ListMade}
 use Rattle.list_calls.specs.Making.{madeList, madeRanks, makeListAnswer, listMadeBy}
 
@@ -15,6 +16,10 @@ readTextWithAnswer table list text z = withTable table (readTextAnswer table lis
 -- what the slice holds then: the ranks in front, the rest as it was
 unfoldable pub readTextWithExit : List ℕ → List ℕ → List ℕ → List ℕ → List ℕ
 readTextWithExit table list text z = filled (readTextWithAnswer table list text z) (textRanks table list text) z
+
+-- finding a word in a word list with a lent table: refusals 18, 1 and 13
+unfoldable pub findWordWithAnswer : List ℕ → List ℕ → List ℕ → Answer
+findWordWithAnswer table list spelling = withTable table (findWordAnswer table list spelling)
 
 -- making a word list of a text with a lent table, in slices that hold y and z, for the list and for the ranks: refusals 18, 2, 17 and 5
 unfoldable pub makeListWithAnswer : List ℕ → List ℕ → List ℕ → List ℕ → Answer

@@ -1,16 +1,19 @@
 -- The check of a letter table and the calls that are lent one: the theorem about them.
 use Prim.Native.Nat.{ℕ}
 use mathlib.Core.Path.{_≡_}
+use mathlib.Core.Bool.{true}
 use mathlib.Core.List.{List}
 use Rattle.base.specs.Answers.{refused}
 use Rattle.base.specs.Refusals.{refusalTable}
 use Rattle.lexicon.specs.Letters.{letters}
 use Rattle.lexicon.specs.Tables.{TableRules, TablesChecked}
+use Rattle.lexicon.specs.Lexicon.{isList}
 use Rattle.lexicon.specs.Reading.{readTextAnswer, readTextExit}
 use Rattle.lexicon.specs.Laws.{ReadTextExact}
+use Rattle.finding.specs.Finding.{findWordAnswer, FindingExact}
 use Rattle.list_calls.specs.Making.{listMade, makeListExit, makeRanksExit}
 use Rattle.made_lists.specs.Made.{MadeExact, MakingExact}
-use Rattle.lent_tables.specs.Calls.{readTextWithAnswer, readTextWithExit, listMadeWith, makeListWithExit, makeRanksWithExit}
+use Rattle.lent_tables.specs.Calls.{readTextWithAnswer, readTextWithExit, findWordWithAnswer, listMadeWith, makeListWithExit, makeRanksWithExit}
 
 -- a reading that is lent a table answers and writes what reading by that table does, as paper 01 has it of the built-in one
 pub record ReadsAs (table list text z : List ℕ) : Type 0 where
@@ -35,6 +38,10 @@ pub record TablesExact : Type 0 where
   -- with every table that keeps the rules it is the reading of paper 01 by that table, with all that is proved of it
   pub readsWith : (table list text z : List ℕ) → TableRules table → ReadsAs table list text z
   pub reading : (table : List ℕ) → TableRules table → ReadTextExact table
+  -- the same of finding a word: refused by 18, and otherwise the call without a table, by this one
+  pub findsRefused : (table list spelling : List ℕ) → (TableRules table → ⊥) → findWordWithAnswer table list spelling ≡ refused refusalTable
+  pub findsWith : (table list spelling : List ℕ) → TableRules table → findWordWithAnswer table list spelling ≡ findWordAnswer table list spelling
+  pub finding : (table list : List ℕ) → TableRules table → isList table list ≡ true → FindingExact table list
   -- the same of making a list: refused by 18, it gives two zeros and leaves both slices
   pub makesRefused :
       (table text y z : List ℕ) → (TableRules table → ⊥) →
@@ -45,4 +52,5 @@ pub record TablesExact : Type 0 where
   pub making : (table text y z : List ℕ) → TableRules table → MakingExact table text y z
   -- the letter table, lent, gives what the calls without a table give
   pub readsLetters : (list text z : List ℕ) → ReadsAs letters list text z
+  pub findsLetters : (list spelling : List ℕ) → findWordWithAnswer letters list spelling ≡ findWordAnswer letters list spelling
   pub makesLetters : (text y z : List ℕ) → MakesAs letters text y z

@@ -1,7 +1,7 @@
-// The calls that are lent a letter table: the entries `read_text_with` and `make_list_with`, and the
-// theorem about them and about the check of a table.
+// The calls that are lent a letter table: the entries `read_text_with`, `find_word_with` and
+// `make_list_with`, and the theorem about them and about the check of a table.
 ghost use mathlib.Core.Path.{_≡_};
-ghost use Rattle.lent_tables.specs.Calls.{readTextWithAnswer, readTextWithExit, listMadeWith, makeListWithExit, makeRanksWithExit};
+ghost use Rattle.lent_tables.specs.Calls.{readTextWithAnswer, readTextWithExit, findWordWithAnswer, listMadeWith, makeListWithExit, makeRanksWithExit};
 use base::Answer;
 use base::refusal;
 use list_calls::ListMade;
@@ -17,6 +17,18 @@ pub fn read_text_with(table: &[u8], list: &[u8], text: &[u8], ranks: &mut [u32])
         return Answer::refused(refusal::TABLE);
     }
     plain_text::read_text_by(table, list, text, ranks)
+}
+
+// Finds a spelled word, folded by the lent table, in a word list: it answers its rank, and the number
+// of the list's words where the list lacks it, as it lacks an empty spelling and one with a
+// separator. Refusals 18, then 1 and 13, by the lent table.
+pub fn find_word_with(table: &[u8], list: &[u8], spelling: &[u8]) -> Answer
+    ensures { λ r. ⌜ r ≡ findWordWithAnswer (now (table .entry)) (now (list .entry)) (now (spelling .entry)) ⌝ }
+{
+    if !lexicon::is_table(table) {
+        return Answer::refused(refusal::TABLE);
+    }
+    finding::find_word_by(table, list, spelling)
 }
 
 // Makes a word list of a plain text, whose words are folded by the lent table: the list to the front

@@ -16,9 +16,9 @@ use Rattle.directory.specs.Counters.{blocksCase}
 use Rattle.index.specs.Entries.{indexCases, checkAnswer}
 use Rattle.documents.specs.Documents.{areStarts, documentsCase, standsIn, placesIn}
 use Rattle.pages.specs.Pages.{HitPage, pageOver}
-use Rattle.pages.proofs.Searching.{made-finished}
+use Rattle.pages.proofs.Searching.{made-finished, made-none}
 use Rattle.paging.specs.declared.Written.{Written}
-use Rattle.paging.specs.Written.{writtenOf}
+use Rattle.paging.specs.Written.{writtenOf, endedAt}
 use Rattle.questions.specs.Answering.{readingCases, checkAnswerIn, phraseIn, phraseCases, phraseRefusal, phraseAnswer, rankAskedCase}
 use Rattle.questions.proofs.Answered.{phrase-refused}
 use Rattle.questions.proofs.Checks.{reading-passed, reading-refused, check-in-clear}
@@ -174,3 +174,14 @@ module _ (call : Call) (state : Listing) where
       let w : _≡_ {A = Written} (record { count = 0; more = false; next = record { 0 = state .next }; finished = state .finished }) (writtenOf (callPage call state)) =
       rw (c, f, sym (m .valueIs), sym (m .moreIs), sym (m .nextIs), sym (m .finishedIs)) in
       page-written e (record { count = 0; more = false; next = record { 0 = state .next }; finished = state .finished }) (call .lines) w (m .sliceIs ∙ ap (λ (x : HitPage). front (x .found) (call .lines)) (sym c))
+
+  -- over a state that is not finished a phrase that stands nowhere writes nothing and finishes the listing at the end
+  pub page-nowhere : pageAnswer call state ≡ accepted (length (callPage call state .found)) → state .finished ≡ false
+      → ((q : ℕ) → standsIn (call .documents) (callText call) (callPhrase call) q ≡ false)
+      → (unwritten (accepted 0) (record { next = length (callText call); finished = true }) ≡ pageOf call state .page) × (call .lines ≡ pageOf call state .lines)
+  page-nowhere e f none =
+      let m = made-none (standsIn (call .documents) (callText call) (callPhrase call)) none (length (callText call)) (state .next) (call .lines) in
+      let c = page-of-state false f in
+      let w : _≡_ {A = Written} (endedAt 0 (length (callText call))) (writtenOf (callPage call state)) =
+      rw (c, sym (m .valueIs), sym (m .moreIs), sym (m .nextIs), sym (m .finishedIs)) in
+      page-written e (endedAt 0 (length (callText call))) (call .lines) w (m .sliceIs ∙ ap (λ (x : HitPage). front (x .found) (call .lines)) (sym c))

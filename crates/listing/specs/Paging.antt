@@ -19,7 +19,7 @@ use Rattle.listing.specs.declared.Page.{Page}
 abbrev pub opened : Listing
 opened = record { next = 0; finished = false }
 
--- a page that writes nothing and reports nothing more: its answer, and the state as it came
+-- a page that writes nothing and reports nothing more: its answer, and the state that it hands back
 abbrev pub unwritten : Answer → Listing → Page
 unwritten answer state = record { answer = answer; more = false; listing = state }
 

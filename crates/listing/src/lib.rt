@@ -7,6 +7,7 @@ ghost use Rattle.base.specs.Answers.{isAccepted};
 ghost use Rattle.dense.specs.Code.{Closing};
 ghost use Rattle.index.specs.Arrays.{arrays, textIn};
 ghost use Rattle.documents.specs.Documents.{oneStart};
+ghost use Rattle.questions.specs.Answering.{hasAbsent, phraseIn};
 ghost use Rattle.listing.specs.Paging.{opened, unwritten, callOf, requestAnswer, pageAnswer, pageOf};
 use base::Answer;
 use base::refusal;
@@ -30,7 +31,7 @@ pub struct Page {
 }
 
 impl Page {
-    // A page that writes nothing, reports nothing more, and hands the state back as it came.
+    // A page that writes nothing, reports nothing more, and hands back a state.
     fn unwritten(answer: Answer, listing: Listing) -> Page
         ensures { λ r. ⌜ r ≡ unwritten answer listing ⌝ }
     {
@@ -147,7 +148,7 @@ fn request_answer(
     Answer::accepted(0)
 }
 
-// The page of an accepted call over a state that is not finished.
+// The page of an accepted call over a state that is not finished, of a phrase without an absent word.
 fn written_page(
     state: Listing,
     s: usize,
@@ -162,7 +163,8 @@ fn written_page(
     count: usize,
     lines: &mut [u32],
 ) -> Page
-    requires { ⌜ Closing s × (isAccepted (pageAnswer (callOf s shape (arrays (now lengths) (now bytes) (now superblocks) (now blocks)) (now documents) (now words) start count (now lines)) state) ≡ true) × (state .finished ≡ false) ⌝ }
+    requires { ⌜ Closing s × (isAccepted (pageAnswer (callOf s shape (arrays (now lengths) (now bytes) (now superblocks) (now blocks)) (now documents) (now words) start count (now lines)) state) ≡ true) × (state .finished ≡ false)
+        × (hasAbsent (shape .vocabulary) (phraseIn (now words) start count) ≡ false) ⌝ }
     ensures { λ r. ⌜ (r ≡ pageOf (callOf s shape (arrays (now (lengths .entry)) (now (bytes .entry)) (now (superblocks .entry)) (now (blocks .entry))) (now (documents .entry)) (now (words .entry)) start count (now (lines .entry))) state .page) × (now (lines .exit) ≡ pageOf (callOf s shape (arrays (now (lengths .entry)) (now (bytes .entry)) (now (superblocks .entry)) (now (blocks .entry))) (now (documents .entry)) (now (words .entry)) start count (now (lines .entry))) state .lines) ⌝ }
 {
     let end = start + count;
@@ -228,6 +230,13 @@ pub fn page_of(
     }
     if state.finished {
         return Page::unwritten(Answer::accepted(0), state);
+    }
+    if phrase_checks::has_absent(shape.vocabulary, words, start, count) {
+        let end = Listing {
+            next: n,
+            finished: true,
+        };
+        return Page::unwritten(Answer::accepted(0), end);
     }
     written_page(
         state,

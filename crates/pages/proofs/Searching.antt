@@ -7,7 +7,7 @@ use native.Mathlib.Numerals.{add-one}
 use lib.ListN.{length}
 use Rattle.base.specs.Answers.{front}
 use Rattle.pages.specs.Pages.{HitPage, pageOver}
-use Rattle.pages.proofs.Pages.{fullPage, endPage, page-over-finished}
+use Rattle.pages.proofs.Pages.{fullPage, endPage, page-over-finished, page-nowhere}
 use Rattle.pages.proofs.Filling.{Filled, filled-none}
 
 -- what is returned and what is left in the slice, which was `entry`, is a page
@@ -31,3 +31,7 @@ made-end p entry found slice value last end f e =
 -- over a finished state nothing is written, and the state comes back the same
 pub made-finished : (P : ℕ → Bool) (end next : ℕ) (entry : List ℕ) → Made (pageOver P end (length entry) next true) entry entry 0 false next true
 made-finished P end next entry = made-end (pageOver P end (length entry) next true) entry [] entry 0 0 next (filled-none entry) (page-over-finished P end (length entry) next)
+
+-- where there is no hit nothing is written, and the state is finished at the end
+pub made-none : (P : ℕ → Bool) → ((q : ℕ) → P q ≡ false) → (end next : ℕ) (entry : List ℕ) → Made (pageOver P end (length entry) next false) entry entry 0 false end true
+made-none P none end next entry = made-end (pageOver P end (length entry) next false) entry [] entry 0 0 end (filled-none entry) (page-nowhere P none end (length entry) next)

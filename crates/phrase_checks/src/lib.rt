@@ -1,17 +1,61 @@
-// The tests of a phrase that is a part of the lent words, which every call about a phrase makes, and
-// the count of a phrase of no words, which needs nothing else. No function of this crate is an entry.
-ghost use Prim.Native.Nat.{ℕ, _≤_};
+// The tests of a phrase that is a part of the lent words, which every call about a phrase makes,
+// whether it has an absent word, and the count of a phrase of no words, which needs nothing else. No
+// function of this crate is an entry.
+ghost use Prim.Native.Nat.{ℕ, _+_, _≤_};
 ghost use mathlib.Core.Path.{_≡_};
 ghost use mathlib.Core.List.{List};
+ghost use lib.Dec.{eqb, ltb};
 ghost use lib.ListN.{length};
+ghost use Rattle.base.specs.Lists.{firstWhere};
 ghost use Rattle.base.specs.Texts.{maxWords};
-ghost use Rattle.questions.specs.Answering.{phraseRefusal, phraseAnswer};
+ghost use Rattle.questions.specs.Answering.{hasAbsent, phraseIn, phraseRefusal, phraseAnswer};
 use base::Answer;
 use base::refusal;
 use questions::Question;
 
+// Where the first of the words of a phrase stands that is above a bound; their number where none is.
+fn first_above(phrase: &[u32], bound: usize) -> usize
+    ensures { λ r. ⌜ r ≡ firstWhere (λ w. ltb bound w) (now (phrase .entry)) ⌝ }
+{
+    let mut place = 0;
+    while place < phrase.len() {
+        let rank = phrase[place] as usize;
+        if bound < rank {
+            return place;
+        }
+        place += 1;
+    }
+    place
+}
+
+// Where the first of the words of a phrase stands that is a rank; their number where none is.
+fn first_of(phrase: &[u32], sought: usize) -> usize
+    ensures { λ r. ⌜ r ≡ firstWhere (λ w. eqb w sought) (now (phrase .entry)) ⌝ }
+{
+    let mut place = 0;
+    while place < phrase.len() {
+        let rank = phrase[place] as usize;
+        if rank == sought {
+            return place;
+        }
+        place += 1;
+    }
+    place
+}
+
+// Whether a phrase that lies in the lent words has an absent word, whose rank is the vocabulary's
+// size.
+pub fn has_absent(vocabulary: usize, words: &[u32], start: usize, count: usize) -> bool
+    requires { ⌜ start + count ≤ length (now words) ⌝ }
+    ensures { λ r. ⌜ r ≡ hasAbsent vocabulary (phraseIn (now (words .entry)) start count) ⌝ }
+{
+    let end = start + count;
+    let place = first_of(&words[start..end], vocabulary);
+    place < count
+}
+
 // The number of the refusal of a phrase, 8 or 9; 0 where its part lies in the lent words, has up to
-// 16 of them, and all are below the vocabulary's size. One of no words lies in them if it starts
+// 16 of them, and none is above the vocabulary's size. One of no words lies in them if it starts
 // among them or at their end.
 pub fn phrase_refusal(vocabulary: usize, words: &[u32], start: usize, count: usize) -> u32
     ensures { λ r. ⌜ r ≡ phraseRefusal vocabulary (now (words .entry)) start count ⌝ }
@@ -26,7 +70,7 @@ pub fn phrase_refusal(vocabulary: usize, words: &[u32], start: usize, count: usi
         return refusal::PHRASE;
     }
     let end = start + count;
-    let place = base::first_outside(&words[start..end], vocabulary);
+    let place = first_above(&words[start..end], vocabulary);
     if place < count {
         return refusal::ASKED_RANK;
     }

@@ -2,6 +2,7 @@
 use Prim.Native.Nat.{ℕ, _+_, _≤_, _<_}
 use mathlib.Core.Path.{_≡_, refl, ap, _∙_}
 use mathlib.Core.Bool.{Bool, true, false, not, _||_, false≢true}
+use mathlib.Core.Logic.{_⊎_, inl, inr}
 use mathlib.Core.List.{List, [], _∷_}
 use native.Mathlib.Omega.{arith}
 use borrow.Author.Tests.{lt-ltb, le-ltb, ltb-true, ltb-false, le-leb, lt-leb, eq-eqb, ne-eqb, not-false}
@@ -12,11 +13,10 @@ use lib.ListN.{length, take, drop, length-drop}
 use lib.Seq.{length-take-le}
 use Rattle.base.specs.declared.Answer.{Answer}
 use Rattle.base.specs.Refusals.{refusalKind, refusalPhrase, refusalAskedRank, refusalOffset, refusalPlace}
-use Rattle.base.specs.Lists.{firstWhere}
+use Rattle.base.specs.Lists.{allPass, firstWhere}
 use Rattle.base.specs.Answers.{accepted, refused, _⇒_, firstOf, NoneHolds}
-use Rattle.base.specs.Texts.{maxPhrase, maxOffset, outside, ranksBelow}
-use Rattle.base.proofs.Tests.{or-false, or-left, or-right, or-neither, inside-range}
-use Rattle.base.proofs.Texts.{rank-outside, no-rank-outside}
+use Rattle.base.specs.Texts.{maxPhrase, maxOffset, outside}
+use Rattle.base.proofs.Tests.{and-never, or-false, or-left, or-right, or-neither, inside-range, below-range, above-range, below-or-not}
 use Rattle.base.proofs.Answers.{first-here, first-later, first-append, first-decided, none-holds, answers, filled-not}
 use Rattle.dense.specs.Code.{vocabularyCase}
 use Rattle.directory.specs.Counters.{blocksCase}
@@ -26,8 +26,9 @@ use Rattle.index.specs.Entries.{indexCases, checkAnswer}
 use Rattle.words.specs.Words.{rankAt, occurrencesBelow, frequency, nthPlace}
 use Rattle.documents.specs.Documents.{placesIn, neighboursIn}
 use Rattle.questions.specs.declared.Question.{Question}
-use Rattle.questions.specs.Answering.{rankAskedCase, phraseIn, phraseCases, phraseRefusal, wordAtAnswer, occurrencesAnswer, placeAnswer, neighboursAnswer, phraseAnswer, questionAnswer}
+use Rattle.questions.specs.Answering.{isAskable, rankAskedCase, phraseIn, phraseCases, phraseRefusal, wordAtAnswer, occurrencesAnswer, placeAnswer, neighboursAnswer, phraseAnswer, questionAnswer}
 use Rattle.questions.specs.Passages.{passageAnswer, passageExit}
+use Rattle.questions.proofs.Askable.{some-above, none-above}
 
 -- kind 1
 pub word-at-outside : (t : List ℕ) (p : ℕ) → length t ≤ p → wordAtAnswer t p ≡ refused refusalPlace
@@ -39,57 +40,60 @@ unfolding wordAtAnswer
 word-at-inside t p h = answers ((leb (length t) p ⇒ refused refusalPlace) ∷ []) (accepted (rankAt t p)) (lt-leb (length t) p h, tt)
 
 -- one rank asked about
-one-below : (vocab w : ℕ) → w < vocab → not (ranksBelow vocab (w ∷ [])) ≡ false
-unfolding ranksBelow
-one-below vocab w h = rw (lt-ltb w vocab h)
+one-askable : (vocab w : ℕ) → w ≤ vocab → not (allPass (isAskable vocab) (w ∷ [])) ≡ false
+one-askable vocab w h = rw (le-leb w vocab h)
 
-one-above : (vocab w : ℕ) → vocab ≤ w → not (ranksBelow vocab (w ∷ [])) ≡ true
-unfolding ranksBelow
-one-above vocab w h = rw (le-ltb w vocab h)
+one-above : (vocab w : ℕ) → vocab < w → not (allPass (isAskable vocab) (w ∷ [])) ≡ true
+one-above vocab w h = rw (lt-leb w vocab h)
 
 -- two of them
-two-below : (vocab w v : ℕ) → w < vocab → v < vocab → not (ranksBelow vocab (w ∷ v ∷ [])) ≡ false
-unfolding ranksBelow
-two-below vocab w v h k = rw (lt-ltb w vocab h, lt-ltb v vocab k)
+two-askable : (vocab w v : ℕ) → w ≤ vocab → v ≤ vocab → not (allPass (isAskable vocab) (w ∷ v ∷ [])) ≡ false
+two-askable vocab w v h k = rw (le-leb w vocab h, le-leb v vocab k)
 
-first-above : (vocab w v : ℕ) → vocab ≤ w → not (ranksBelow vocab (w ∷ v ∷ [])) ≡ true
-unfolding ranksBelow
-first-above vocab w v h = rw (le-ltb w vocab h)
+first-above : (vocab w v : ℕ) → vocab < w → not (allPass (isAskable vocab) (w ∷ v ∷ [])) ≡ true
+first-above vocab w v h = rw (lt-leb w vocab h)
 
-second-above : (vocab w v : ℕ) → w < vocab → vocab ≤ v → not (ranksBelow vocab (w ∷ v ∷ [])) ≡ true
-unfolding ranksBelow
-second-above vocab w v h k = rw (lt-ltb w vocab h, le-ltb v vocab k)
+second-above : (vocab w v : ℕ) → vocab < v → not (allPass (isAskable vocab) (w ∷ v ∷ [])) ≡ true
+second-above vocab w v k = rw (lt-leb v vocab k) (ap not (and-never (leb w vocab)))
 
 -- kind 2
 module _ (vocab : ℕ) (t : List ℕ) (w p : ℕ) where
-  pub occurrences-rank : vocab ≤ w → occurrencesAnswer vocab t w p ≡ refused refusalAskedRank
+  pub occurrences-rank : vocab < w → occurrencesAnswer vocab t w p ≡ refused refusalAskedRank
   unfolding occurrencesAnswer rankAskedCase
-  occurrences-rank h = first-here (not (ranksBelow vocab (w ∷ []))) (refused refusalAskedRank) ((ltb (length t) p ⇒ refused refusalPlace) ∷ []) _ (one-above vocab w h)
+  occurrences-rank h = first-here (not (allPass (isAskable vocab) (w ∷ []))) (refused refusalAskedRank) ((ltb (length t) p ⇒ refused refusalPlace) ∷ []) _ (one-above vocab w h)
 
-  pub occurrences-outside : w < vocab → length t < p → occurrencesAnswer vocab t w p ≡ refused refusalPlace
+  pub occurrences-outside : w ≤ vocab → length t < p → occurrencesAnswer vocab t w p ≡ refused refusalPlace
   unfolding occurrencesAnswer rankAskedCase
   occurrences-outside h l =
-      first-later (not (ranksBelow vocab (w ∷ []))) (refused refusalAskedRank) ((ltb (length t) p ⇒ refused refusalPlace) ∷ []) _ (one-below vocab w h)
+      first-later (not (allPass (isAskable vocab) (w ∷ []))) (refused refusalAskedRank) ((ltb (length t) p ⇒ refused refusalPlace) ∷ []) _ (one-askable vocab w h)
       ∙ first-here (ltb (length t) p) (refused refusalPlace) [] _ (lt-ltb (length t) p l)
 
-  pub occurrences-inside : w < vocab → p ≤ length t → occurrencesAnswer vocab t w p ≡ accepted (occurrencesBelow t w p)
+  pub occurrences-inside : w ≤ vocab → p ≤ length t → occurrencesAnswer vocab t w p ≡ accepted (occurrencesBelow t w p)
   unfolding occurrencesAnswer rankAskedCase
-  occurrences-inside h l = answers (rankAskedCase vocab (w ∷ []) ∷ (ltb (length t) p ⇒ refused refusalPlace) ∷ []) (accepted (occurrencesBelow t w p)) (one-below vocab w h, (le-ltb (length t) p l, tt))
+  occurrences-inside h l = answers (rankAskedCase vocab (w ∷ []) ∷ (ltb (length t) p ⇒ refused refusalPlace) ∷ []) (accepted (occurrencesBelow t w p)) (one-askable vocab w h, (le-ltb (length t) p l, tt))
 
   -- kind 3
-  pub place-rank : vocab ≤ w → placeAnswer vocab t w p ≡ refused refusalAskedRank
+  pub place-rank : vocab < w → placeAnswer vocab t w p ≡ refused refusalAskedRank
   unfolding placeAnswer rankAskedCase
-  place-rank h = first-here (not (ranksBelow vocab (w ∷ []))) (refused refusalAskedRank) ((outside 1 (frequency t w) p ⇒ refused refusalPlace) ∷ []) _ (one-above vocab w h)
+  place-rank h = first-here (not (allPass (isAskable vocab) (w ∷ []))) (refused refusalAskedRank) ((outside 1 (frequency t w) p ⇒ refused refusalPlace) ∷ []) _ (one-above vocab w h)
 
-  pub place-outside : w < vocab → outside 1 (frequency t w) p ≡ true → placeAnswer vocab t w p ≡ refused refusalPlace
+  pub place-outside : w ≤ vocab → outside 1 (frequency t w) p ≡ true → placeAnswer vocab t w p ≡ refused refusalPlace
   unfolding placeAnswer rankAskedCase
   place-outside h l =
-      first-later (not (ranksBelow vocab (w ∷ []))) (refused refusalAskedRank) ((outside 1 (frequency t w) p ⇒ refused refusalPlace) ∷ []) _ (one-below vocab w h)
+      first-later (not (allPass (isAskable vocab) (w ∷ []))) (refused refusalAskedRank) ((outside 1 (frequency t w) p ⇒ refused refusalPlace) ∷ []) _ (one-askable vocab w h)
       ∙ first-here (outside 1 (frequency t w) p) (refused refusalPlace) [] _ l
 
-  pub place-inside : w < vocab → 1 ≤ p → p ≤ frequency t w → placeAnswer vocab t w p ≡ accepted (nthPlace t w p)
+  pub place-inside : w ≤ vocab → 1 ≤ p → p ≤ frequency t w → placeAnswer vocab t w p ≡ accepted (nthPlace t w p)
   unfolding placeAnswer rankAskedCase
-  place-inside h k l = answers (rankAskedCase vocab (w ∷ []) ∷ (outside 1 (frequency t w) p ⇒ refused refusalPlace) ∷ []) (accepted (nthPlace t w p)) (one-below vocab w h, (inside-range 1 (frequency t w) p k l, tt))
+  place-inside h k l = answers (rankAskedCase vocab (w ∷ []) ∷ (outside 1 (frequency t w) p ⇒ refused refusalPlace) ∷ []) (accepted (nthPlace t w p)) (one-askable vocab w h, (inside-range 1 (frequency t w) p k l, tt))
+
+  -- a word that stands nowhere has no place
+  pub place-never : w ≤ vocab → frequency t w ≡ 0 → placeAnswer vocab t w p ≡ refused refusalPlace
+  place-never h e = place-outside h (ap (λ (n : ℕ). outside 1 n p) e ∙ go (below-or-not p 1))
+    where
+      go : (p < 1) ⊎ (1 ≤ p) → outside 1 0 p ≡ true
+      go (inl l) = below-range 1 0 p l
+      go (inr l) = above-range 1 0 p (omega arith)
 
 -- an offset below -16 or above 16 is far, and one that is neither is not
 pub offset-left : (d : ℤ) → ltZ d (negsuc 15) ≡ true → maxOffset < natAbs d
@@ -106,31 +110,31 @@ offset-near (negsuc k) e h = omega (arith, ltb-false 15 k e)
 
 -- kind 4
 module _ (vocab : ℕ) (t documents : List ℕ) (w v : ℕ) (d : ℤ) where
-  neighbours-asked : not (ranksBelow vocab (w ∷ v ∷ [])) ≡ true → neighboursAnswer vocab t documents w v d ≡ refused refusalAskedRank
+  neighbours-asked : not (allPass (isAskable vocab) (w ∷ v ∷ [])) ≡ true → neighboursAnswer vocab t documents w v d ≡ refused refusalAskedRank
   unfolding neighboursAnswer rankAskedCase
-  neighbours-asked h = first-here (not (ranksBelow vocab (w ∷ v ∷ []))) (refused refusalAskedRank) ((ltb maxOffset (natAbs d) ⇒ refused refusalOffset) ∷ []) _ h
+  neighbours-asked h = first-here (not (allPass (isAskable vocab) (w ∷ v ∷ []))) (refused refusalAskedRank) ((ltb maxOffset (natAbs d) ⇒ refused refusalOffset) ∷ []) _ h
 
-  pub neighbours-first : vocab ≤ w → neighboursAnswer vocab t documents w v d ≡ refused refusalAskedRank
+  pub neighbours-first : vocab < w → neighboursAnswer vocab t documents w v d ≡ refused refusalAskedRank
   neighbours-first h = neighbours-asked (first-above vocab w v h)
 
-  pub neighbours-second : w < vocab → vocab ≤ v → neighboursAnswer vocab t documents w v d ≡ refused refusalAskedRank
-  neighbours-second h k = neighbours-asked (second-above vocab w v h k)
+  pub neighbours-second : vocab < v → neighboursAnswer vocab t documents w v d ≡ refused refusalAskedRank
+  neighbours-second k = neighbours-asked (second-above vocab w v k)
 
-  pub neighbours-far : w < vocab → v < vocab → maxOffset < natAbs d → neighboursAnswer vocab t documents w v d ≡ refused refusalOffset
+  pub neighbours-far : w ≤ vocab → v ≤ vocab → maxOffset < natAbs d → neighboursAnswer vocab t documents w v d ≡ refused refusalOffset
   unfolding neighboursAnswer rankAskedCase
   neighbours-far h k l =
-      first-later (not (ranksBelow vocab (w ∷ v ∷ []))) (refused refusalAskedRank) ((ltb maxOffset (natAbs d) ⇒ refused refusalOffset) ∷ []) _ (two-below vocab w v h k)
+      first-later (not (allPass (isAskable vocab) (w ∷ v ∷ []))) (refused refusalAskedRank) ((ltb maxOffset (natAbs d) ⇒ refused refusalOffset) ∷ []) _ (two-askable vocab w v h k)
       ∙ first-here (ltb maxOffset (natAbs d)) (refused refusalOffset) [] _ (lt-ltb maxOffset (natAbs d) l)
 
-  pub neighbours-near : w < vocab → v < vocab → natAbs d ≤ maxOffset → neighboursAnswer vocab t documents w v d ≡ accepted (neighboursIn documents t w v d)
+  pub neighbours-near : w ≤ vocab → v ≤ vocab → natAbs d ≤ maxOffset → neighboursAnswer vocab t documents w v d ≡ accepted (neighboursIn documents t w v d)
   unfolding neighboursAnswer rankAskedCase
-  neighbours-near h k l = answers (rankAskedCase vocab (w ∷ v ∷ []) ∷ (ltb maxOffset (natAbs d) ⇒ refused refusalOffset) ∷ []) (accepted (neighboursIn documents t w v d)) (two-below vocab w v h k, (le-ltb maxOffset (natAbs d) l, tt))
+  neighbours-near h k l = answers (rankAskedCase vocab (w ∷ v ∷ []) ∷ (ltb maxOffset (natAbs d) ⇒ refused refusalOffset) ∷ []) (accepted (neighboursIn documents t w v d)) (two-askable vocab w v h k, (le-ltb maxOffset (natAbs d) l, tt))
 
--- a phrase that is not refused: it has up to 16 words, lies in the lent words, and has ranks below V
+-- a phrase that is not refused: it has up to 16 words, lies in the lent words, and has no rank above V
 pub record PhraseFits (vocab : ℕ) (words : List ℕ) (start len : ℕ) : Type 0 where
   pub most : len ≤ maxPhrase
   pub inside : start + len ≤ length words
-  pub below : ranksBelow vocab (phraseIn words start len) ≡ true
+  pub askable : allPass (isAskable vocab) (phraseIn words start len) ≡ true
 
 -- kind 5
 module _ (vocab : ℕ) (words : List ℕ) (start len : ℕ) where
@@ -147,14 +151,14 @@ module _ (vocab : ℕ) (words : List ℕ) (start len : ℕ) where
   inside-part : len ≤ maxPhrase → start + len ≤ length words → ltb maxPhrase len || ltb (length words) (start + len) ≡ false
   inside-part k l = or-false (ltb maxPhrase len) (ltb (length words) (start + len)) (le-ltb maxPhrase len k) (le-ltb (length words) (start + len) l)
 
-  pub phrase-rank : len ≤ maxPhrase → start + len ≤ length words → ranksBelow vocab (phraseIn words start len) ≡ false → phraseRefusal vocab words start len ≡ refusalAskedRank
+  pub phrase-rank : len ≤ maxPhrase → start + len ≤ length words → allPass (isAskable vocab) (phraseIn words start len) ≡ false → phraseRefusal vocab words start len ≡ refusalAskedRank
   unfolding phraseRefusal phraseCases rankAskedCase
   phrase-rank k l e =
       ap (λ (r : Answer). r .refusal)
       (first-later (ltb maxPhrase len || ltb (length words) (start + len)) (refused refusalPhrase) (rankAskedCase vocab (phraseIn words start len) ∷ []) (accepted 0) (inside-part k l)
-      ∙ first-here (not (ranksBelow vocab (phraseIn words start len))) (refused refusalAskedRank) [] (accepted 0) (ap not e))
+      ∙ first-here (not (allPass (isAskable vocab) (phraseIn words start len))) (refused refusalAskedRank) [] (accepted 0) (ap not e))
 
-  pub phrase-none : len ≤ maxPhrase → start + len ≤ length words → ranksBelow vocab (phraseIn words start len) ≡ true → phraseRefusal vocab words start len ≡ 0
+  pub phrase-none : len ≤ maxPhrase → start + len ≤ length words → allPass (isAskable vocab) (phraseIn words start len) ≡ true → phraseRefusal vocab words start len ≡ 0
   unfolding phraseRefusal phraseCases rankAskedCase
   phrase-none k l e = ap (λ (r : Answer). r .refusal) (answers (phraseCases vocab words start len) (accepted 0) (inside-part k l, (ap not e, tt)))
 
@@ -163,20 +167,20 @@ module _ (vocab : ℕ) (words : List ℕ) (start len : ℕ) where
   unfolding phraseIn
   part-length l = length-take-le len (drop start words) (omega (arith, length-drop start words))
 
-  -- the first of its words that is not below V lies in it, or there is none
-  pub part-outside : start + len ≤ length words → (m r : ℕ) → m ≡ len → r ≡ firstWhere (λ (w : ℕ). leb vocab w) (take m (drop start words)) → r < len
-      → ranksBelow vocab (phraseIn words start len) ≡ false
+  -- the first of its words that is above V lies in it, or there is none
+  pub part-above : start + len ≤ length words → (m r : ℕ) → m ≡ len → r ≡ firstWhere (λ (w : ℕ). ltb vocab w) (take m (drop start words)) → r < len
+      → allPass (isAskable vocab) (phraseIn words start len) ≡ false
   unfolding phraseIn
-  part-outside l m r em er h =
-      let f : r ≡ firstWhere (λ (w : ℕ). leb vocab w) (phraseIn words start len) = er ∙ ap (λ (k : ℕ). firstWhere (λ (w : ℕ). leb vocab w) (take k (drop start words))) em in
-      rank-outside vocab (phraseIn words start len) (omega (arith, f, part-length l))
+  part-above l m r em er h =
+      let f : r ≡ firstWhere (λ (w : ℕ). ltb vocab w) (phraseIn words start len) = er ∙ ap (λ (k : ℕ). firstWhere (λ (w : ℕ). ltb vocab w) (take k (drop start words))) em in
+      some-above vocab (phraseIn words start len) (omega (arith, f, part-length l))
 
-  pub part-below : start + len ≤ length words → (m r : ℕ) → m ≡ len → r ≡ firstWhere (λ (w : ℕ). leb vocab w) (take m (drop start words)) → len ≤ r
-      → ranksBelow vocab (phraseIn words start len) ≡ true
+  pub part-askable : start + len ≤ length words → (m r : ℕ) → m ≡ len → r ≡ firstWhere (λ (w : ℕ). ltb vocab w) (take m (drop start words)) → len ≤ r
+      → allPass (isAskable vocab) (phraseIn words start len) ≡ true
   unfolding phraseIn
-  part-below l m r em er h =
-      let f : r ≡ firstWhere (λ (w : ℕ). leb vocab w) (phraseIn words start len) = er ∙ ap (λ (k : ℕ). firstWhere (λ (w : ℕ). leb vocab w) (take k (drop start words))) em in
-      no-rank-outside vocab (phraseIn words start len) (omega (arith, f, part-length l))
+  part-askable l m r em er h =
+      let f : r ≡ firstWhere (λ (w : ℕ). ltb vocab w) (phraseIn words start len) = er ∙ ap (λ (k : ℕ). firstWhere (λ (w : ℕ). ltb vocab w) (take k (drop start words))) em in
+      none-above vocab (phraseIn words start len) (omega (arith, f, part-length l))
 
   -- no test of it holds
   phrase-clear : phraseRefusal vocab words start len ≡ 0 → NoneHolds (phraseCases vocab words start len)
@@ -188,7 +192,7 @@ module _ (vocab : ℕ) (words : List ℕ) (start len : ℕ) where
   phrase-fits e =
       let n = phrase-clear e in
       let part = or-neither (ltb maxPhrase len) (ltb (length words) (start + len)) (n .0) in
-      record { most = ltb-false maxPhrase len (part .0); inside = ltb-false (length words) (start + len) (part .1); below = not-false (ranksBelow vocab (phraseIn words start len)) (n .1 .0) }
+      record { most = ltb-false maxPhrase len (part .0); inside = ltb-false (length words) (start + len) (part .1); askable = not-false (allPass (isAskable vocab) (phraseIn words start len)) (n .1 .0) }
 
   pub phrase-counted : (t documents : List ℕ) → phraseRefusal vocab words start len ≡ 0 → phraseAnswer vocab t documents words start len ≡ accepted (length (placesIn documents t (phraseIn words start len)))
   unfolding phraseAnswer
@@ -204,7 +208,7 @@ module _ (vocab : ℕ) (words : List ℕ) (start len : ℕ) where
 
   pub phrase-refused : (t documents : List ℕ) → (phraseRefusal vocab words start len ≡ 0 → ⊥) → phraseAnswer vocab t documents words start len ≡ refused (phraseRefusal vocab words start len)
   unfolding phraseAnswer phraseRefusal phraseCases rankAskedCase
-  phrase-refused t documents h = refused-number (ltb maxPhrase len || ltb (length words) (start + len)) (not (ranksBelow vocab (phraseIn words start len))) (length (placesIn documents t (phraseIn words start len))) h
+  phrase-refused t documents h = refused-number (ltb maxPhrase len || ltb (length words) (start + len)) (not (allPass (isAskable vocab) (phraseIn words start len))) (length (placesIn documents t (phraseIn words start len))) h
 
 -- a question is answered by its kind
 module _ (vocab : ℕ) (t documents words : List ℕ) (q : Question) where

@@ -7,19 +7,19 @@ use native.Mathlib.Omega.{arith}
 use lib.ListN.{length}
 use Rattle.base.specs.Refusals.{refusalPhrase}
 use Rattle.base.specs.Answers.{accepted, refused}
-use Rattle.base.specs.Texts.{ranksBelow}
+use Rattle.base.specs.Lists.{allPass}
 use Rattle.index.specs.Arrays.{textIn}
 use Rattle.phrases.proofs.NoWords.{none-count}
 use Rattle.documents.proofs.Exact.{documents-are-exact}
-use Rattle.questions.specs.Answering.{phraseIn, phraseAnswer}
+use Rattle.questions.specs.Answering.{isAskable, phraseIn, phraseAnswer}
 use Rattle.questions.specs.NoWords.{NoWordsAreExact}
 use Rattle.questions.proofs.Read.{ask-in-passed, passage-accepted, passage-filled}
 use Rattle.questions.proofs.Answered.{phrase-none, phrase-past, phrase-counted, phrase-refused, part-length, kind-5}
 
--- a phrase of no words has no rank outside
-none-below : (vocab : ℕ) (words : List ℕ) (start len : ℕ) → len ≡ 0 → ranksBelow vocab (phraseIn words start len) ≡ true
-unfolding phraseIn ranksBelow
-none-below vocab words start len e = rw e
+-- a phrase of no words has no rank above V
+none-above : (vocab : ℕ) (words : List ℕ) (start len : ℕ) → len ≡ 0 → allPass (isAskable vocab) (phraseIn words start len) ≡ true
+unfolding phraseIn
+none-above vocab words start len e = rw e
 
 -- the answer of kind 5: of a part that starts among the lent words or at their end, and of one that starts past it
 module _ (vocab : ℕ) (t documents words : List ℕ) (start len : ℕ) (none : len ≡ 0) where
@@ -27,7 +27,7 @@ module _ (vocab : ℕ) (t documents words : List ℕ) (start len : ℕ) (none : 
   no-words-counted h =
       let inside : start + len ≤ length words = omega arith in
       let none-there : length (phraseIn words start len) ≡ 0 = part-length vocab words start len inside ∙ none in
-      phrase-counted vocab words start len t documents (phrase-none vocab words start len (omega arith) inside (none-below vocab words start len none))
+      phrase-counted vocab words start len t documents (phrase-none vocab words start len (omega arith) inside (none-above vocab words start len none))
       ∙ ap accepted (ap length (documents-are-exact documents t (phraseIn words start len) .none none-there) ∙ none-count t (phraseIn words start len) none-there)
 
   pub no-words-past : length words < start → phraseAnswer vocab t documents words start len ≡ refused refusalPhrase

@@ -4,10 +4,10 @@ use mathlib.Core.Path.{_≡_, refl, sym, ap, _∙_}
 use mathlib.Core.Bool.{Bool, true, false, _&&_, false≢true}
 use native.Mathlib.Omega.{arith}
 use borrow.Author.Tests.{ne-eqb}
-use lib.Dec.{ltb}
+use lib.Dec.{leb}
 use lib.IntN.{ℤ, pos, negsuc, negℤ, natAbs}
 use Rattle.base.specs.Answers.{firstOf}
-use Rattle.base.specs.Texts.{outside, ranksBelow}
+use Rattle.base.specs.Texts.{outside}
 use Rattle.base.proofs.Tests.{inside-range}
 use Rattle.index.specs.Arrays.{textIn}
 use Rattle.documents.proofs.Inside.{mirror-in}
@@ -45,5 +45,5 @@ abs-negated (pos (suc n)) = refl
 abs-negated (negsuc n) = refl
 
 pub mirror-asked : MirrorAsked
-unfolding askAnswerIn questionAnswer neighboursAnswer rankAskedCase ranksBelow
-mirror-asked s shape a documents words w v d = rw (mirror-in documents _ w v d, abs-negated d, and-turned (ltb w (shape .vocabulary)) (ltb v (shape .vocabulary)))
+unfolding askAnswerIn questionAnswer neighboursAnswer rankAskedCase
+mirror-asked s shape a documents words w v d = rw (mirror-in documents _ w v d, abs-negated d, and-turned (leb w (shape .vocabulary)) (leb v (shape .vocabulary)))

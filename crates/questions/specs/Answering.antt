@@ -1,14 +1,15 @@
 -- The answer to a question about the text of an index.
 use Prim.Native.Nat.{ℕ, _+_}
-use mathlib.Core.Bool.{cond, not, _||_}
+use mathlib.Core.Bool.{Bool, cond, not, _||_}
 use mathlib.Core.List.{List, [], _∷_, _++_}
 use lib.Dec.{eqb, leb, ltb}
 use lib.IntN.{ℤ, natAbs}
 use lib.ListN.{length, take, drop}
 use Rattle.base.specs.declared.Answer.{Answer}
+use Rattle.base.specs.Lists.{allPass, firstWhere}
 use Rattle.base.specs.Refusals.{refusalKind, refusalPhrase, refusalAskedRank, refusalOffset, refusalPlace}
 use Rattle.base.specs.Answers.{accepted, refused, Case, _⇒_, firstOf}
-use Rattle.base.specs.Texts.{maxPhrase, maxOffset, outside, ranksBelow}
+use Rattle.base.specs.Texts.{maxPhrase, maxOffset, outside}
 use Rattle.index.specs.declared.Shape.{Shape}
 use Rattle.index.specs.Arrays.{Arrays, textIn}
 use Rattle.index.specs.Entries.{indexCases}
@@ -24,15 +25,23 @@ readingCases s shape a documents = indexCases s shape a ++ documentsCase (length
 unfoldable pub checkAnswerIn : ℕ → Shape → Arrays → List ℕ → Answer
 checkAnswerIn s shape a documents = firstOf (readingCases s shape a documents) (accepted 0)
 
--- refusal 9: a rank asked about is not below V
+-- whether a rank may be asked about: it is at most V, and V itself is an absent word, which stands nowhere
+abbrev pub isAskable : ℕ → ℕ → Bool
+isAskable vocab w = leb w vocab
+
+-- refusal 9: a rank asked about is above V
 unfoldable pub rankAskedCase : ℕ → List ℕ → Case
-rankAskedCase vocab asked = not (ranksBelow vocab asked) ⇒ refused refusalAskedRank
+rankAskedCase vocab asked = not (allPass (isAskable vocab) asked) ⇒ refused refusalAskedRank
+
+-- whether a phrase has an absent word
+unfoldable pub hasAbsent : ℕ → List ℕ → Bool
+hasAbsent vocab phrase = ltb (firstWhere (λ w. eqb w vocab) phrase) (length phrase)
 
 -- the phrase in a part of the lent words
 unfoldable pub phraseIn : List ℕ → ℕ → ℕ → List ℕ
 phraseIn words start len = take len (drop start words)
 
--- refusals 8 and 9 of a phrase: its length is above 16 or its part outside the lent words; one of its words is not below V
+-- refusals 8 and 9 of a phrase: its length is above 16 or its part outside the lent words; one of its words is above V
 unfoldable pub phraseCases : ℕ → List ℕ → ℕ → ℕ → List Case
 phraseCases vocab words start len =
     (ltb maxPhrase len || ltb (length words) (start + len) ⇒ refused refusalPhrase)

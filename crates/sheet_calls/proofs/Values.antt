@@ -10,9 +10,9 @@ use lib.IntN.{ℤ, natAbs}
 use lib.ListN.{length, List·getD-eq-default}
 use Rattle.base.specs.declared.Answer.{Answer}
 use Rattle.base.specs.Refusals.{refusalKind, refusalPhrase, refusalAskedRank, refusalOffset, refusalPlace}
-use Rattle.base.specs.Lists.{Below}
+use Rattle.base.specs.Lists.{Below, allPass}
 use Rattle.base.specs.Answers.{accepted, refused, _⇒_, firstOf}
-use Rattle.base.specs.Texts.{maxWords, maxPhrase, maxOffset, outside, ranksBelow, isText}
+use Rattle.base.specs.Texts.{maxWords, maxPhrase, maxOffset, outside, isText}
 use Rattle.base.proofs.Tests.{and-left, below-or-not}
 use Rattle.base.proofs.Lists.{all-at}
 use Rattle.base.proofs.Counts.{count-take-most, nth-most}
@@ -25,7 +25,7 @@ use Rattle.words.specs.Ready.{Checked}
 use Rattle.words.specs.Words.{rankAt, occurrencesBelow, frequency, nthPlace}
 use Rattle.documents.specs.Documents.{standsIn, placesIn, neighbourIn, neighboursIn}
 use Rattle.questions.specs.declared.Question.{Question}
-use Rattle.questions.specs.Answering.{rankAskedCase, phraseIn, phraseCases, wordAtAnswer, occurrencesAnswer, placeAnswer, neighboursAnswer, phraseAnswer, questionAnswer}
+use Rattle.questions.specs.Answering.{isAskable, rankAskedCase, phraseIn, phraseCases, wordAtAnswer, occurrencesAnswer, placeAnswer, neighboursAnswer, phraseAnswer, questionAnswer}
 use Rattle.sheet_calls.specs.Sheets.{HasPair}
 
 module _ (P : Answer → Type 0) where
@@ -55,20 +55,20 @@ module _ (P : Answer → Type 0) where
 
       occurrences : (w p : ℕ) → P (accepted (occurrencesBelow t w p)) → P (occurrencesAnswer vocab t w p)
       unfolding occurrencesAnswer rankAskedCase
-      occurrences w p h = two (not (ranksBelow vocab (w ∷ []))) (ltb (length t) p) (refused refusalAskedRank) (refused refusalPlace) (accepted (occurrencesBelow t w p)) rank (refuses refusalPlace (omega arith) (omega arith)) h
+      occurrences w p h = two (not (allPass (isAskable vocab) (w ∷ []))) (ltb (length t) p) (refused refusalAskedRank) (refused refusalPlace) (accepted (occurrencesBelow t w p)) rank (refuses refusalPlace (omega arith) (omega arith)) h
 
       place : (w p : ℕ) → P (accepted (nthPlace t w p)) → P (placeAnswer vocab t w p)
       unfolding placeAnswer rankAskedCase
-      place w p h = two (not (ranksBelow vocab (w ∷ []))) (outside 1 (frequency t w) p) (refused refusalAskedRank) (refused refusalPlace) (accepted (nthPlace t w p)) rank (refuses refusalPlace (omega arith) (omega arith)) h
+      place w p h = two (not (allPass (isAskable vocab) (w ∷ []))) (outside 1 (frequency t w) p) (refused refusalAskedRank) (refused refusalPlace) (accepted (nthPlace t w p)) rank (refuses refusalPlace (omega arith) (omega arith)) h
 
       near : (w v : ℕ) (d : ℤ) → P (accepted (neighboursIn documents t w v d)) → P (neighboursAnswer vocab t documents w v d)
       unfolding neighboursAnswer rankAskedCase
-      near w v d h = two (not (ranksBelow vocab (w ∷ v ∷ []))) (ltb maxOffset (natAbs d)) (refused refusalAskedRank) (refused refusalOffset) (accepted (neighboursIn documents t w v d)) rank (refuses refusalOffset (omega arith) (omega arith)) h
+      near w v d h = two (not (allPass (isAskable vocab) (w ∷ v ∷ []))) (ltb maxOffset (natAbs d)) (refused refusalAskedRank) (refused refusalOffset) (accepted (neighboursIn documents t w v d)) rank (refuses refusalOffset (omega arith) (omega arith)) h
 
       phrase : (words : List ℕ) (start len : ℕ) → P (accepted (length (placesIn documents t (phraseIn words start len)))) → P (phraseAnswer vocab t documents words start len)
       unfolding phraseAnswer phraseCases rankAskedCase
       phrase words start len h =
-          two (ltb maxPhrase len || ltb (length words) (start + len)) (not (ranksBelow vocab (phraseIn words start len))) (refused refusalPhrase) (refused refusalAskedRank) (accepted (length (placesIn documents t (phraseIn words start len))))
+          two (ltb maxPhrase len || ltb (length words) (start + len)) (not (allPass (isAskable vocab) (phraseIn words start len))) (refused refusalPhrase) (refused refusalAskedRank) (accepted (length (placesIn documents t (phraseIn words start len))))
           (refuses refusalPhrase (omega arith) (omega arith)) rank h
 
       pub each-answer : ((p : ℕ) → P (accepted (rankAt t p))) → ((w p : ℕ) → P (accepted (occurrencesBelow t w p))) → ((w p : ℕ) → P (accepted (nthPlace t w p)))

@@ -2,17 +2,20 @@
 use Prim.Native.Nat.{ℕ, _+_, _≤_, _<_}
 use mathlib.Core.Path.{_≡_, refl, sym, ap, _∙_}
 use mathlib.Core.Bool.{true}
-use mathlib.Core.List.{List}
+use mathlib.Core.List.{List, map}
 use native.Mathlib.Omega.{arith}
 use lib.ListN.{length, take, drop, getD}
 use Rattle.base.specs.declared.Answer.{Answer}
-use Rattle.base.specs.Lists.{total}
+use Rattle.base.specs.Lists.{rangeFrom, total}
 use Rattle.base.specs.Answers.{accepted, isAccepted, filled, front}
 use Rattle.base.proofs.Fronts.{take-front, front-inside, drop-front}
-use Rattle.base.proofs.Ranges.{getD-map-range}
+use Rattle.base.proofs.Ranges.{length-map-range, getD-map-range}
+use Rattle.dense.specs.Code.{Closing}
 use Rattle.index.specs.declared.Shape.{Shape}
 use Rattle.index.specs.Arrays.{Arrays, textIn}
+use Rattle.index.proofs.Exact.{index-exact}
 use Rattle.documents.specs.Documents.{countInDocument, countsByDocument}
+use Rattle.documents.proofs.Absent.{absent-words}
 use Rattle.documents.proofs.Exact.{documents-are-exact}
 use Rattle.questions.specs.Makers.{asksPhrase}
 use Rattle.questions.specs.Answering.{phraseIn, askAnswerIn}
@@ -51,7 +54,7 @@ module _ (s : ℕ) (shape : Shape) (a : Arrays) (documents words : List ℕ) (st
   sums =
       ask-in-passed s shape a documents words (asksPhrase start len) (p .passed) (p .rules)
       ∙ kind-5 (shape .vocabulary) t documents words (asksPhrase start len) refl
-      ∙ phrase-counted (shape .vocabulary) words start len t documents (phrase-none (shape .vocabulary) words start len (p .most) (p .inside) (p .below))
+      ∙ phrase-counted (shape .vocabulary) words start len t documents (phrase-none (shape .vocabulary) words start len (p .most) (p .inside) (p .askable))
       ∙ ap accepted (sym (documents-are-exact documents t phrase .addUp (p .rules) some))
       ∙ sym (ap (λ (xs : List ℕ). accepted (total (take (length documents) xs))) in-front
       ∙ ap (λ (xs : List ℕ). accepted (total xs)) (ap (λ (k : ℕ). take k (front counts z)) (sym long) ∙ take-front counts z))
@@ -67,6 +70,15 @@ module _ (s : ℕ) (shape : Shape) (a : Arrays) (documents words : List ℕ) (st
       let n : length counts + 0 ≡ length documents = omega (arith, long) in
       ap (drop (length documents)) in-front ∙ ap (λ (k : ℕ). drop k (front counts z)) (sym n) ∙ drop-front counts z 0 ∙ ap (λ (k : ℕ). drop k z) n
 
+  -- where a word is absent each count is 0
+  zero : Closing s → (i : ℕ) → i < length phrase → getD phrase i 0 ≡ shape .vocabulary → (k : ℕ) → k < length documents
+      → getD (summaryExit s shape a documents words start len z) k 0 ≡ 0
+  zero within i l e k h =
+      let absent = absent-words (shape .vocabulary) documents t (index-exact s shape within .rebuilt a (p .passed) .text .ranks) in
+      ap (λ (xs : List ℕ). getD xs k 0) (in-front ∙ ap (λ (cs : List ℕ). front cs z) (absent .uncounted phrase i l e))
+      ∙ front-inside (map (λ (j : ℕ). 0) (rangeFrom 0 (length documents))) z k (omega (arith, length-map-range {A = ℕ} (λ (j : ℕ). 0) 0 (length documents)))
+      ∙ getD-map-range {A = ℕ} (λ (j : ℕ). 0) (length documents) k 0 h
+
 pub summaries-exact : SummariesExact
 summaries-exact s shape a documents words start len z h = record {
   valued = accepts s shape a documents words start len (length z) (p s shape a documents words start len z h);
@@ -74,6 +86,7 @@ summaries-exact s shape a documents words start len z h = record {
   alone = λ k l.
       by-itself s shape a documents words start len z h k l
       ∙ documents-are-exact documents (textIn s a) (phraseIn words start len) .alone (p s shape a documents words start len z h .rules) (some s shape a documents words start len z h) k l;
+  absent = zero s shape a documents words start len z h;
   rest = stays s shape a documents words start len z h;
 }
 

@@ -10,7 +10,8 @@ use lib.ListN.{length}
 use Rattle.base.specs.declared.Answer.{Answer}
 use Rattle.base.specs.Refusals.{refusalPhrase, refusalPage}
 use Rattle.base.specs.Answers.{Case, _⇒_, firstOf, isAccepted, accepted, refused}
-use Rattle.base.specs.Texts.{maxPhrase, outside, ranksBelow}
+use Rattle.base.specs.Lists.{allPass}
+use Rattle.base.specs.Texts.{maxPhrase, outside}
 use Rattle.base.proofs.Tests.{or-left, or-neither, or-false, inside-range, range-inside}
 use Rattle.base.proofs.Answers.{first-here, first-append, first-decided, none-holds, none-append, answers, filled-not}
 use Rattle.dense.specs.Code.{vocabularyCase}
@@ -19,7 +20,7 @@ use Rattle.index.specs.declared.Shape.{Shape}
 use Rattle.index.specs.Arrays.{Arrays, textIn}
 use Rattle.index.specs.Entries.{indexCases, checkAnswer}
 use Rattle.documents.specs.Documents.{areStarts, documentsCase, placesIn}
-use Rattle.questions.specs.Answering.{readingCases, checkAnswerIn, rankAskedCase, phraseIn, phraseCases, phraseRefusal, phraseAnswer}
+use Rattle.questions.specs.Answering.{readingCases, checkAnswerIn, isAskable, rankAskedCase, phraseIn, phraseCases, phraseRefusal, phraseAnswer}
 use Rattle.questions.proofs.Answered.{phrase-refused}
 use Rattle.questions.proofs.Checks.{reading-refused, reading-passed, check-in-clear, reading-tests}
 use Rattle.summaries.specs.Summaries.{summaryRequestCases, summaryRequest, summaryCases, summaryAnswer, summaryExit, Summarised}
@@ -113,7 +114,7 @@ module _ (s : ℕ) (shape : Shape) (a : Arrays) (documents words : List ℕ) (st
         some = i .0;
         most = i .1;
         inside = ltb-false (length words) (start + len) (o .1);
-        below = not-false (ranksBelow (shape .vocabulary) (phraseIn words start len)) (n .1 .1 .1 .1 .1 .0);
+        askable = not-false (allPass (isAskable (shape .vocabulary)) (phraseIn words start len)) (n .1 .1 .1 .1 .1 .0);
         enough = ltb-false room (length documents) (n .1 .1 .1 .1 .1 .1 .0);
       }
 
@@ -124,7 +125,7 @@ module _ (s : ℕ) (shape : Shape) (a : Arrays) (documents words : List ℕ) (st
       answers (summaryCases s shape a documents words start len room) (accepted (length documents))
       (none-append (readingCases s shape a documents) request (reading-tests s shape a documents (p .passed) (p .rules)) (
         or-false (outside 1 maxPhrase len) (ltb (length words) (start + len)) (inside-range 1 maxPhrase len (p .some) (p .most)) (le-ltb (length words) (start + len) (p .inside)),
-        (ap not (p .below), (le-ltb room (length documents) (p .enough), tt)),
+        (ap not (p .askable), (le-ltb room (length documents) (p .enough), tt)),
       ))
 
 -- a refused summary leaves its slice

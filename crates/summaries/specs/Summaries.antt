@@ -7,17 +7,18 @@ use mathlib.Core.List.{List, [], _∷_, _++_}
 use lib.Dec.{ltb}
 use lib.ListN.{length, take, drop, getD}
 use Rattle.base.specs.declared.Answer.{Answer}
-use Rattle.base.specs.Lists.{total}
+use Rattle.base.specs.Lists.{allPass, total}
 use Rattle.base.specs.Refusals.{refusalPhrase, refusalPage}
 use Rattle.base.specs.Answers.{accepted, refused, isAccepted, Case, _⇒_, firstOf, filled}
-use Rattle.base.specs.Texts.{maxPhrase, outside, ranksBelow}
+use Rattle.base.specs.Texts.{maxPhrase, outside}
+use Rattle.dense.specs.Code.{Closing}
 use Rattle.index.specs.declared.Shape.{Shape}
 use Rattle.index.specs.Arrays.{Arrays, textIn}
 use Rattle.index.specs.Entries.{checkAnswer}
 use Rattle.phrases.specs.Phrases.{places}
 use Rattle.documents.specs.Documents.{areStarts, countsByDocument, documentWords}
 use Rattle.questions.specs.Makers.{asksPhrase}
-use Rattle.questions.specs.Answering.{readingCases, rankAskedCase, phraseIn, askAnswerIn}
+use Rattle.questions.specs.Answering.{readingCases, isAskable, rankAskedCase, phraseIn, askAnswerIn}
 
 -- the refusals of a summary after those of the index and of the starts, in the order tried: of the phrase, which has a word or more here, and
 -- of a slice with less than one element for each of so many documents
@@ -48,14 +49,14 @@ summaryExit s shape a documents words start len z =
     filled (summaryAnswer s shape a documents words start len (length z)) (countsByDocument documents (textIn s a) (phraseIn words start len)) z
 
 -- a summary is accepted exactly if its index passes the check, its starts keep the rules, its phrase has 1 to 16 words that lie in the lent
--- ones and are below V, and its slice has an element for each document
+-- ones and are at most V, and its slice has an element for each document
 pub record Summarised (s : ℕ) (shape : Shape) (a : Arrays) (documents words : List ℕ) (start len room : ℕ) : Type 0 where
   pub passed : checkAnswer s shape a ≡ accepted 0
   pub rules : areStarts (length (textIn s a)) documents ≡ true
   pub some : 1 ≤ len
   pub most : len ≤ maxPhrase
   pub inside : start + len ≤ length words
-  pub below : ranksBelow (shape .vocabulary) (phraseIn words start len) ≡ true
+  pub askable : allPass (isAskable (shape .vocabulary)) (phraseIn words start len) ≡ true
   pub enough : length documents ≤ room
 
 -- what holds of an accepted summary
@@ -71,6 +72,10 @@ pub record SummaryExact (s : ℕ) (shape : Shape) (a : Arrays) (documents words 
       (k : ℕ) → k < length documents →
       getD (summaryExit s shape a documents words start len z) k 0
       ≡ length (places (documentWords documents (textIn s a) k) (phraseIn words start len))
+  -- of a phrase with an absent word, whose rank is V, each is 0
+  pub absent :
+      Closing s → (i : ℕ) → i < length (phraseIn words start len) → getD (phraseIn words start len) i 0 ≡ shape .vocabulary →
+      (k : ℕ) → k < length documents → getD (summaryExit s shape a documents words start len z) k 0 ≡ 0
   -- the elements past the documents stay
   pub rest : drop (length documents) (summaryExit s shape a documents words start len z) ≡ drop (length documents) z
 

@@ -113,6 +113,10 @@ pub fn summary_of(
     if request.refusal != 0 {
         return request;
     }
+    if phrase_checks::has_absent(shape.vocabulary, words, start, count) {
+        document_counts::clear_counts(counts, size);
+        return Answer::accepted(size);
+    }
     let end = start + count;
     write_summary(
         s,

@@ -10,6 +10,7 @@
 //     list BYTES                 the word list; \ and two hexadecimal digits stand for any byte
 //     text N SIZE BYTES          reads plain text through the list with the first N entries, into a
 //                                slice of so many ranks
+//     known N BYTES              finds a spelled word in the list with the first N entries
 //     from N LIST RANKS BYTES    makes a word list of plain text with the first N entries, in slices of
 //                                so many bytes and ranks
 //
@@ -116,6 +117,18 @@ fn text(state: State, line: &[u8], numbers: Numbers) {
     );
 }
 
+// Finds the word that a line spells in the word list with the front of the table.
+fn known(state: State, line: &[u8], numbers: Numbers) {
+    let table = state.table;
+    let list = state.list;
+    let spelled = given::spelled_by(line, 2);
+    printing::answered(lent_tables::find_word_with(
+        front_bytes(&table, numbers.values[0]),
+        front_bytes(&list, state.size),
+        front_bytes(&spelled.bytes, spelled.count),
+    ));
+}
+
 // Makes a word list of plain text with a table in two slices.
 fn make(table: &[u8], text: &[u8], list: &mut [u8], ranks: &mut [u32]) {
     let made = lent_tables::make_list_with(table, text, list, ranks);
@@ -146,6 +159,7 @@ fn show(state: State, line: &[u8], numbers: Numbers) {
     match line[0] {
         b'c' => check(state, numbers),
         b't' => text(state, line, numbers),
+        b'k' => known(state, line, numbers),
         b'f' => from(state, line, numbers),
         _ => {}
     }

@@ -1,5 +1,5 @@
-//! Random inputs: texts, shapes, slices for an index, sizes, arrays that are damaged, questions, document starts, plain texts, word lists and letter
-//! tables.
+//! Random inputs: texts, shapes, slices for an index, sizes, arrays that are damaged, questions, document starts, plain texts, word lists, letter
+//! tables and spellings.
 use super::random::Random;
 use super::reference;
 use concordance::{Arrays, IndexSizes, Question, Shape};
@@ -226,7 +226,12 @@ fn lengthen(random: &mut Random, arrays: &mut Arrays) {
     }
 }
 
-/// The lent words of phrases: parts of the text, other words, and now and then one that is V.
+/// A rank above V: by one, or the last two that there are.
+pub fn rank_above(random: &mut Random, vocabulary: usize) -> u32 {
+    random.one_of(&[vocabulary as u32 + 1, u32::MAX - 1, u32::MAX])
+}
+
+/// The lent words of phrases: parts of the text, other words, and now and then some that are V, an absent word, or above V.
 pub fn words(random: &mut Random, vocabulary: usize, text: &[u32]) -> Vec<u32> {
     let length = random.between(0, 20);
     let mut words = Vec::new();
@@ -237,9 +242,20 @@ pub fn words(random: &mut Random, vocabulary: usize, text: &[u32]) -> Vec<u32> {
     while words.len() < length {
         words.push(random.below(vocabulary) as u32);
     }
-    if !words.is_empty() && random.once_in(8) {
-        let at = random.below(words.len());
-        words[at] = random.one_of(&[vocabulary as u32, u32::MAX]);
+    if words.is_empty() {
+        return words;
+    }
+    if random.once_in(3) {
+        for _ in 0..random.between(1, 3) {
+            let at = random.below(words.len());
+            words[at] = vocabulary as u32;
+        }
+    }
+    if random.once_in(5) {
+        for _ in 0..random.between(1, 2) {
+            let at = random.below(words.len());
+            words[at] = rank_above(random, vocabulary);
+        }
     }
     words
 }
@@ -255,12 +271,12 @@ fn number(random: &mut Random, text: &[u32]) -> usize {
     }
 }
 
-/// A rank of the text, or another.
+/// A rank of the text, V, one above V, or another.
 fn asked(random: &mut Random, vocabulary: usize, text: &[u32]) -> u32 {
-    match random.below(8) {
-        0 => vocabulary as u32,
-        1 => u32::MAX,
-        2 => random.below(vocabulary) as u32,
+    match random.below(10) {
+        0 | 1 => vocabulary as u32,
+        2 => rank_above(random, vocabulary),
+        3 => random.below(vocabulary) as u32,
         _ if text.is_empty() => 0,
         _ => random.one_of(text),
     }
@@ -295,6 +311,28 @@ pub fn question(random: &mut Random, vocabulary: usize, text: &[u32], words: &[u
         start,
         length,
     }
+}
+
+/// Whether a phrase of up to 16 words is a part of the lent words, with an absent word, V, and with none above V.
+pub fn part_has_absent(vocabulary: usize, words: &[u32], (start, length): (usize, usize)) -> bool {
+    let inside = start <= words.len() && length <= (words.len() - start).min(16);
+    inside && absent_among(vocabulary, &words[start..start + length])
+}
+
+/// Whether a question of kinds 2 to 5 asks about an absent word, V, and about no rank above V.
+pub fn asks_about_absent(vocabulary: usize, words: &[u32], question: Question) -> bool {
+    let Question { kind, w, v, start, length, .. } = question;
+    match kind {
+        2 | 3 => absent_among(vocabulary, &[w]),
+        4 => absent_among(vocabulary, &[w, v]),
+        5 => part_has_absent(vocabulary, words, (start, length)),
+        _ => false,
+    }
+}
+
+/// Whether one of some ranks is V, and none is above V.
+fn absent_among(vocabulary: usize, ranks: &[u32]) -> bool {
+    ranks.iter().max().is_some_and(|&rank| rank as usize == vocabulary)
 }
 
 /// The starts of the documents of a text of so many words: one document, one for each word, or some of few words or of many.
@@ -474,6 +512,16 @@ pub fn any_table(random: &mut Random) -> Vec<u8> {
         .collect()
 }
 
+/// A letter table that is lent: the built-in one, another, and now and then one that breaks a rule.
+pub fn lent_table(random: &mut Random) -> Vec<u8> {
+    match random.below(10) {
+        0 => broken_table(random),
+        1 => any_table(random),
+        2 => reference::built_in(),
+        _ => letter_table(random),
+    }
+}
+
 /// A plain text by a letter table: over few of its letters, each in one spelling or two, and few of its separators, or over all bytes.
 pub fn text_by(random: &mut Random, table: &[u8]) -> Vec<u8> {
     let kept = reference::kept(table);
@@ -494,4 +542,42 @@ pub fn text_by(random: &mut Random, table: &[u8]) -> Vec<u8> {
             _ => random.one_of(&letters),
         })
         .collect()
+}
+
+/// A spelling by a letter table, made of a word of a list, half the time in other bytes with the same letters: the word itself, its front or its end,
+/// the word with a letter put in or changed, with a separator, a line end or a byte 00 before it, in it or behind it, two words with a separator
+/// between them, nothing, or any bytes.
+pub fn spelling(random: &mut Random, table: &[u8], list: &[u8]) -> Vec<u8> {
+    let kept = reference::kept(table);
+    let spelled =
+        |letter: u8| -> Vec<u8> { (0..=255).filter(|&byte| reference::letter(table, byte) == letter).collect() };
+    let separators = spelled(0);
+    let words: Vec<&[u8]> = list.split(|&byte| byte == b'\n').filter(|word| !word.is_empty()).collect();
+    let mut spelling = if words.is_empty() { vec![random.one_of(&kept)] } else { random.one_of(&words).to_vec() };
+    if random.once_in(2) {
+        for byte in &mut spelling {
+            let alike = spelled(*byte);
+            *byte = if alike.is_empty() { *byte } else { random.one_of(&alike) };
+        }
+    }
+    let at = random.below(spelling.len() + 1);
+    let place = random.one_of(&[0, at, spelling.len()]);
+    match random.below(16) {
+        0 => spelling.truncate(at),
+        1 => drop(spelling.drain(..at)),
+        2 => spelling.insert(place, random.one_of(&kept)),
+        3 => spelling.push(random.one_of(&kept)),
+        4 => spelling.insert(place, random.one_of(&separators)),
+        5 => spelling.insert(place, b'\n'),
+        6 => spelling.insert(place, 0),
+        7 if !words.is_empty() => {
+            spelling.push(random.one_of(&[b'\n', separators[0], separators[separators.len() - 1]]));
+            spelling.extend(random.one_of(&words));
+        }
+        8 => spelling.clear(),
+        9 => spelling = (0..random.between(1, 6)).map(|_| random.next() as u8).collect(),
+        10 if at < spelling.len() => spelling[at] = random.one_of(&kept),
+        _ => {}
+    }
+    spelling
 }

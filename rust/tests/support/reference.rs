@@ -333,14 +333,14 @@ pub fn scan(block: &[u8], byte: u8, j: usize) -> (Option<usize>, usize) {
 
 // ---- questions
 
-/// The phrase in a part of the lent words; 8 or 9 where it is none.
+/// The phrase in a part of the lent words, in which V is an absent word; 8 or 9 where it is none.
 fn phrase(vocabulary: usize, words: &[u32], start: usize, length: usize) -> Result<&[u32], Answer> {
     let inside = start <= words.len() && length <= words.len() - start;
     if length > 16 || !inside {
         return Err(refused(8));
     }
     let phrase = &words[start..start + length];
-    if phrase.iter().any(|&word| word as usize >= vocabulary) {
+    if phrase.iter().any(|&word| word as usize > vocabulary) {
         return Err(refused(9));
     }
     Ok(phrase)
@@ -373,11 +373,11 @@ pub fn neighbours(text: &[u32], w: u32, v: u32, d: i32) -> usize {
     (0..text.len()).filter(|&q| text[q] == w && inside(q) && text[at(q) as usize] == v).count()
 }
 
-/// The answer to a question about a text of some pieces.
+/// The answer to a question about a text of some pieces. An absent word, V, is sought in the text as any other, and never found.
 fn answer(vocabulary: usize, pieces: &[Vec<u32>], words: &[u32], question: Question) -> Answer {
     let Question { kind, w, v, d, p, start, length } = question;
     let text = pieces.concat();
-    let unknown = |rank: u32| rank as usize >= vocabulary;
+    let unknown = |rank: u32| rank as usize > vocabulary;
     match kind {
         1 => match text.get(p) {
             Some(&rank) => accepted(rank as usize),
@@ -672,6 +672,26 @@ pub fn read_text(table: &[u8], list: &[u8], text: &[u8], into: &mut [u32]) -> An
         *line = ranks[&word[..]];
     }
     accepted(words.len())
+}
+
+/// Finds a spelled word by a table, which may be no table: the spelling is read as a plain text, of which it must be one word from end to end.
+pub fn find_word(table: &[u8], list: &[u8], spelling: &[u8]) -> Answer {
+    if !is_table(table) {
+        return refused(18);
+    }
+    let closings = list.iter().filter(|&&byte| byte == 0x0A).count();
+    if !vocabulary_fits(closings) {
+        return refused(1);
+    }
+    let Some(listed) = list_words(table, list) else {
+        return refused(13);
+    };
+    let ranks = ranks_of(&listed);
+    let rank = match &words_of(table, spelling)[..] {
+        [(_, word)] if word.len() == spelling.len() => ranks.get(&word[..]).copied(),
+        _ => None,
+    };
+    accepted(rank.map_or(closings, |rank| rank as usize))
 }
 
 /// What is made of a plain text: its word list and the ranks of its words, or its refusal.

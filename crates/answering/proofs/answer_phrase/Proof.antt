@@ -1,5 +1,5 @@
--- `answering::answer_phrase` meets its contract: a phrase of no words is counted by its places, and one that is not refused can be searched
--- for. Assumes nothing.
+-- `answering::answer_phrase` meets its contract: a phrase of no words is counted by its places, one with an absent word stands nowhere,
+-- and another that is not refused can be searched for. Assumes nothing.
 use Prim.Native.Nat.{ℕ, _+_, _-_}
 use mathlib.Core.Path.{_≡_, sym, ap, _∙_}
 use mathlib.Core.List.{List}
@@ -7,12 +7,13 @@ use native.Mathlib.Omega.{arith}
 use borrow.Author.Needs.{needs}
 use lib.ListN.{length, take, drop}
 use Rattle.base.specs.Answers.{accepted, refused}
-use Rattle.base.proofs.Texts.{below-of-test}
 use Rattle.index.specs.Arrays.{arrays, textIn}
 use Rattle.words.proofs.Parts.{checked-some}
-use Rattle.words.proofs.Positions.{text-most}
+use Rattle.words.proofs.Positions.{text-most, ranks-below}
+use Rattle.documents.proofs.Absent.{absent-words}
 use Rattle.documents.specs.Documents.{placesIn}
 use Rattle.questions.specs.Answering.{phraseIn, phraseRefusal, phraseAnswer}
+use Rattle.questions.proofs.Askable.{askable-below, absent-at}
 use Rattle.questions.proofs.Answered.{PhraseFits, phrase-fits, phrase-refused, phrase-counted, part-length}
 use Rattle.answering.proofs.answer_phrase.Statement.{statement}
 use Rattle.answering.proofs.answer_phrase.Tie as tie
@@ -58,11 +59,29 @@ returns-2 c =
     c .refused .ensures ∙ ap refused (c .before .before .phrase-refusal .ensures)
     ∙ sym (phrase-refused (st .args .shape .vocabulary) (st .args .words .now) (st .args .start) (st .args .count) _ (st .args .documents .now) (λ e. c .before .if2 .taken (c .before .before .phrase-refusal .ensures ∙ e)))
 
+has-absent-requires : tie.Need-has-absent-requires
+has-absent-requires c κs = fits c .inside
+
+-- a phrase with an absent word stands nowhere
+accepted-requires : tie.Need-accepted-requires
+accepted-requires c κs = search needs
+
+returns-3 : tie.Need-returns-3
+returns-3 c =
+    let e = c .before .before .before in
+    let st = start e in
+    let phrase = phraseIn (st .args .words .now) (st .args .start) (st .args .count) in
+    let at = absent-at (st .args .shape .vocabulary) phrase (sym (c .before .before .has-absent .ensures) ∙ c .before .if3 .taken) in
+    let absent = absent-words (st .args .shape .vocabulary) (st .args .documents .now) (text st) (ranks-below (st .pre .0 .checked)) in
+    c .accepted .ensures
+    ∙ ap (λ (ps : List ℕ). accepted (length ps)) (sym (absent .nowhere phrase (at .0) (at .1) (at .2)))
+    ∙ sym (phrase-counted (st .args .shape .vocabulary) (st .args .words .now) (st .args .start) (st .args .count) (text st) (st .args .documents .now) (none e))
+
 add-end : tie.Need-add-end
-add-end c = omega (arith, fits c .inside)
+add-end c = omega (arith, fits (c .before .before) .inside)
 
 mul-count-phrase : tie.Need-mul-count-phrase
-mul-count-phrase c = omega (arith, fits c .inside)
+mul-count-phrase c = omega (arith, fits (c .before .before) .inside)
 
 sub-count-phrase : tie.Need-sub-count-phrase
 sub-count-phrase c = search needs
@@ -71,33 +90,36 @@ part-count-phrase-start : tie.Need-part-count-phrase-start
 part-count-phrase-start c = search needs
 
 part-count-phrase-end : tie.Need-part-count-phrase-end
-part-count-phrase-end c = omega (arith, fits c .inside)
+part-count-phrase-end c = omega (arith, fits (c .before .before) .inside)
 
 count-phrase-requires : tie.Need-count-phrase-requires
 unfolding phraseIn
 count-phrase-requires c κs =
-    let st = c .before .before .before .before .before .before .before .before .before .before .before in
+    let e = c .before .before .before in
+    let st = start e in
+    let phrase = phraseIn (st .args .words .now) (st .args .start) (st .args .count) in
     let m : st .args .start + st .args .count - st .args .start ≡ st .args .count = omega arith in
-    let n : length (phraseIn (st .args .words .now) (st .args .start) (st .args .count)) ≡ st .args .count = part-length (st .args .shape .vocabulary) (st .args .words .now) (st .args .start) (st .args .count) (fits (c .before) .inside) in (
+    let n : length phrase ≡ st .args .count = part-length (st .args .shape .vocabulary) (st .args .words .now) (st .args .start) (st .args .count) (fits e .inside) in (
       rw m (record {
         ready = st .pre .0;
-        some = omega (arith, n, c .before .before .before .if1 .left);
-        most = omega (arith, n, fits (c .before) .most);
-        below = below-of-test (st .args .shape .vocabulary) (phraseIn (st .args .words .now) (st .args .start) (st .args .count)) (fits (c .before) .below);
+        some = omega (arith, n, e .before .before .if1 .left);
+        most = omega (arith, n, fits e .most);
+        below = askable-below (st .args .shape .vocabulary) phrase (fits e .askable) (sym (c .before .before .has-absent .ensures) ∙ c .before .if3 .left);
       }),
       st .pre .1,
     )
 
-accepted-requires : tie.Need-accepted-requires
-accepted-requires c κs = search needs
+accepted-requires-2 : tie.Need-accepted-requires-2
+accepted-requires-2 c κs = search needs
 
-returns-3 : tie.Need-returns-3
+returns-4 : tie.Need-returns-4
 unfolding phraseIn
-returns-3 c =
-    let st = c .before .before .before .before .before .before .before .before .before .before .before .before .before in
+returns-4 c =
+    let e = c .before .before .before .before .before in
+    let st = start e in
     let m : st .args .start + st .args .count - st .args .start ≡ st .args .count = omega arith in
-    c .accepted .ensures ∙ ap accepted (c .before .count-phrase .ensures ∙ ap (λ (k : ℕ). length (placesIn (st .args .documents .now) (text st) (take k (drop (st .args .start) (st .args .words .now))))) m)
-    ∙ sym (phrase-counted (st .args .shape .vocabulary) (st .args .words .now) (st .args .start) (st .args .count) (text st) (st .args .documents .now) (none (c .before .before .before)))
+    c .accepted2 .ensures ∙ ap accepted (c .before .count-phrase .ensures ∙ ap (λ (k : ℕ). length (placesIn (st .args .documents .now) (text st) (take k (drop (st .args .start) (st .args .words .now))))) m)
+    ∙ sym (phrase-counted (st .args .shape .vocabulary) (st .args .words .now) (st .args .start) (st .args .count) (text st) (st .args .documents .now) (none e))
 
 pub answer-phrase-spec : {M : Type 1} → statement M
 answer-phrase-spec =
@@ -109,11 +131,14 @@ answer-phrase-spec =
     phrase-refusal-requires
     refused-requires
     returns-2
+    has-absent-requires
+    accepted-requires
+    returns-3
     add-end
     mul-count-phrase
     sub-count-phrase
     part-count-phrase-start
     part-count-phrase-end
     count-phrase-requires
-    accepted-requires
-    returns-3)
+    accepted-requires-2
+    returns-4)

@@ -1,5 +1,5 @@
 -- `listing::page_of` meets its contract: the tests of the index and of the starts are tried, then those after them, a finished state
--- comes back, and otherwise the page is written. Assumes nothing.
+-- comes back, a phrase with an absent word finishes the listing, and otherwise the page is written. Assumes nothing.
 use mathlib.Core.Path.{_≡_, sym, ap, _∙_}
 use mathlib.Core.Bool.{false}
 use borrow.Author.Tests.{ne-eqb}
@@ -10,10 +10,14 @@ use Rattle.index.specs.Arrays.{Arrays, arrays, textIn}
 use Rattle.index.specs.Entries.{checkAnswer}
 use Rattle.words.specs.Ready.{Checked}
 use Rattle.words.proofs.Parts.{accepted-checked, checked-some}
-use Rattle.questions.specs.Answering.{checkAnswerIn}
+use Rattle.words.proofs.Positions.{ranks-below}
+use Rattle.documents.proofs.Absent.{absent-words}
+use Rattle.questions.specs.Answering.{checkAnswerIn, phraseIn}
+use Rattle.questions.proofs.Askable.{absent-at}
+use Rattle.questions.proofs.Answered.{phrase-fits}
 use Rattle.questions.proofs.Checks.{check-in-clear}
 use Rattle.listing.specs.Paging.{Call, callOf, callPage, unwritten, requestAnswer, pageAnswer, PageResult, pageOf}
-use Rattle.listing.proofs.Paged.{page-refused, page-finished, by-reading, by-request, taken}
+use Rattle.listing.proofs.Paged.{page-refused, page-finished, page-nowhere, accepted-call, by-reading, by-request, taken}
 use borrow.Author.Needs.{needs}
 use Rattle.listing.proofs.page_of.Statement.{statement}
 use Rattle.listing.proofs.page_of.Tie as tie
@@ -106,14 +110,43 @@ returns-3 c =
     let st = start (c .before .before .before .before .before .before .before) in
     rw (c .unwritten3 .ensures, c .before .accepted .ensures) (page-finished (callAt st) (st .args .state) (good (c .before .before .before)) (c .before .before .if3 .taken))
 
+-- an accepted call has a phrase that lies in the lent words
+has-absent-requires : tie.Need-has-absent-requires
+has-absent-requires c κs =
+    let st = start (c .before .before .before .before .before) in
+    phrase-fits (st .args .shape .vocabulary) (st .args .words .now) (st .args .start) (st .args .count) (accepted-call (callAt st) (st .args .state) (ap isAccepted (good (c .before))) .phrase) .inside
+
+-- one with an absent word stands nowhere
+accepted-requires-2 : tie.Need-accepted-requires-2
+accepted-requires-2 c κs = search needs
+
+unwritten-requires-4 : tie.Need-unwritten-requires-4
+unwritten-requires-4 c κs = search needs
+
+returns-4 : tie.Need-returns-4
+returns-4 c =
+    let at = c .before .before .before .before .before .before .before .before .before in
+    let st = start at in
+    let t = textIn (st .args .s) (four st) in
+    let phrase = phraseIn (st .args .words .now) (st .args .start) (st .args .count) in
+    let absent = absent-at (st .args .shape .vocabulary) phrase (sym (c .before .before .before .has-absent .ensures) ∙ c .before .before .if4 .taken) in
+    let nowhere = absent-words (st .args .shape .vocabulary) (st .args .documents .now) t (ranks-below (checked at)) .stands phrase (absent .0) (absent .1) (absent .2) in
+    rw (c .unwritten4 .ensures, c .before .accepted2 .ensures, c .before .before .before .before .before .before .before .before .text-length .ensures .1 _ _ _ _ _ (checked at))
+    (page-nowhere (callAt st) (st .args .state) (good (c .before .before .before .before .before)) (c .before .before .before .before .if3 .left) nowhere)
+
 written-page-requires : tie.Need-written-page-requires
-written-page-requires c κs = (start (c .before .before .before .before .before .before) .pre, ap isAccepted (good (c .before .before)), c .before .if3 .left)
+written-page-requires c κs = (
+  start (c .before .before .before .before .before .before .before .before) .pre,
+  ap isAccepted (good (c .before .before .before .before)),
+  c .before .before .before .if3 .left,
+  sym (c .before .before .has-absent .ensures) ∙ c .before .if4 .left,
+)
 
 same-length : tie.Need-same-length
 same-length c = search needs
 
-returns-4 : tie.Need-returns-4
-returns-4 c = search needs
+returns-5 : tie.Need-returns-5
+returns-5 c = search needs
 
 pub page-of-spec : {M : Type 1} → statement M
 page-of-spec =
@@ -129,6 +162,10 @@ page-of-spec =
     accepted-requires
     unwritten-requires-3
     returns-3
+    has-absent-requires
+    accepted-requires-2
+    unwritten-requires-4
+    returns-4
     written-page-requires
     same-length
-    returns-4)
+    returns-5)

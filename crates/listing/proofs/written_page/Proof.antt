@@ -5,7 +5,6 @@ use mathlib.Core.Bool.{false}
 use native.Mathlib.Omega.{arith}
 use lib.ListN.{length, take, drop}
 use Rattle.base.specs.Answers.{front}
-use Rattle.base.proofs.Texts.{below-of-test}
 use Rattle.index.specs.Arrays.{Arrays, arrays, textIn}
 use Rattle.words.specs.Ready.{Checked}
 use Rattle.words.proofs.Parts.{accepted-checked}
@@ -14,6 +13,7 @@ use Rattle.documents.proofs.Starts.{starts-are}
 use Rattle.pages.specs.Pages.{HitPage, pageOver}
 use Rattle.paging.specs.Written.{writtenOf}
 use Rattle.questions.specs.Answering.{phraseIn}
+use Rattle.questions.proofs.Askable.{askable-below}
 use Rattle.questions.proofs.Answered.{PhraseFits, phrase-fits, part-length}
 use Rattle.listing.specs.Paging.{Call, callOf, callPage}
 use Rattle.listing.proofs.Paged.{Accepted, accepted-call, page-of-state, page-written}
@@ -67,7 +67,7 @@ write-page-requires c κs =
     rw m (
       checked st,
       omega (arith, n, f .most),
-      below-of-test (st .args .shape .vocabulary) (phraseIn (st .args .words .now) (st .args .start) (st .args .count)) (f .below),
+      askable-below (st .args .shape .vocabulary) (phraseIn (st .args .words .now) (st .args .start) (st .args .count)) (f .askable) (st .pre .3),
       passed st .inside,
       starts-are (length (textIn (st .args .s) (four st))) (st .args .documents .now) (passed st .starts) .ascending,
     )

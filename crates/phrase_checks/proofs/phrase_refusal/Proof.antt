@@ -4,7 +4,7 @@ use mathlib.Core.Path.{_≡_, sym}
 use native.Mathlib.Omega.{arith}
 use borrow.Author.Needs.{needs}
 use lib.ListN.{length}
-use Rattle.questions.proofs.Answered.{phrase-long, phrase-past, phrase-rank, phrase-none, part-outside, part-below}
+use Rattle.questions.proofs.Answered.{phrase-long, phrase-past, phrase-rank, phrase-none, part-above, part-askable}
 use Rattle.phrase_checks.proofs.phrase_refusal.Statement.{statement}
 use Rattle.phrase_checks.proofs.phrase_refusal.Tie as tie
 
@@ -29,20 +29,20 @@ returns-3 c =
 add-end : tie.Need-add-end
 add-end c = search needs
 
-mul-first-outside : tie.Need-mul-first-outside
-mul-first-outside c = search needs
+mul-first-above : tie.Need-mul-first-above
+mul-first-above c = search needs
 
-sub-first-outside : tie.Need-sub-first-outside
-sub-first-outside c = search needs
+sub-first-above : tie.Need-sub-first-above
+sub-first-above c = search needs
 
-part-first-outside-start : tie.Need-part-first-outside-start
-part-first-outside-start c = search needs
+part-first-above-start : tie.Need-part-first-above-start
+part-first-above-start c = search needs
 
-part-first-outside-end : tie.Need-part-first-outside-end
-part-first-outside-end c = search needs
+part-first-above-end : tie.Need-part-first-above-end
+part-first-above-end c = search needs
 
-first-outside-requires : tie.Need-first-outside-requires
-first-outside-requires c κs = search needs
+first-above-requires : tie.Need-first-above-requires
+first-above-requires c κs = search needs
 
 returns-4 : tie.Need-returns-4
 returns-4 c =
@@ -50,7 +50,7 @@ returns-4 c =
     let m : st .args .start + st .args .count - st .args .start ≡ st .args .count = omega arith in
     let inside : st .args .start + st .args .count ≤ length (st .args .words .now) = omega (arith, c .before .before .before .if3 .left, c .before .before .before .before .if2 .left) in
     sym (phrase-rank (st .args .vocabulary) (st .args .words .now) (st .args .start) (st .args .count) (c .before .before .before .before .before .if1 .left) inside
-    (part-outside (st .args .vocabulary) (st .args .words .now) (st .args .start) (st .args .count) inside (st .args .start + st .args .count - st .args .start) (c .before .first-outside .result) m (c .before .first-outside .ensures) (c .if4 .taken)))
+    (part-above (st .args .vocabulary) (st .args .words .now) (st .args .start) (st .args .count) inside (st .args .start + st .args .count - st .args .start) (c .before .first-above .result) m (c .before .first-above .ensures) (c .if4 .taken)))
 
 returns-5 : tie.Need-returns-5
 returns-5 c =
@@ -58,7 +58,7 @@ returns-5 c =
     let m : st .args .start + st .args .count - st .args .start ≡ st .args .count = omega arith in
     let inside : st .args .start + st .args .count ≤ length (st .args .words .now) = omega (arith, c .before .before .before .if3 .left, c .before .before .before .before .if2 .left) in
     sym (phrase-none (st .args .vocabulary) (st .args .words .now) (st .args .start) (st .args .count) (c .before .before .before .before .before .if1 .left) inside
-    (part-below (st .args .vocabulary) (st .args .words .now) (st .args .start) (st .args .count) inside (st .args .start + st .args .count - st .args .start) (c .before .first-outside .result) m (c .before .first-outside .ensures) (c .if4 .left)))
+    (part-askable (st .args .vocabulary) (st .args .words .now) (st .args .start) (st .args .count) inside (st .args .start + st .args .count - st .args .start) (c .before .first-above .result) m (c .before .first-above .ensures) (c .if4 .left)))
 
 pub phrase-refusal-spec : {M : Type 1} → statement M
 phrase-refusal-spec =
@@ -69,10 +69,10 @@ phrase-refusal-spec =
     sub-if3
     returns-3
     add-end
-    mul-first-outside
-    sub-first-outside
-    part-first-outside-start
-    part-first-outside-end
-    first-outside-requires
+    mul-first-above
+    sub-first-above
+    part-first-above-start
+    part-first-above-end
+    first-above-requires
     returns-4
     returns-5)

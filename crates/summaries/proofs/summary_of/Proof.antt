@@ -1,18 +1,21 @@
 -- `summaries::summary_of` meets its contract: the check with the rules of the starts decides, then what is asked for, and then the counts are
--- written. Assumes nothing.
+-- written, which are zeros where a word is absent. Assumes nothing.
 use Prim.Native.Nat.{ℕ, _+_, _-_, _*_, _<_}
 use mathlib.Core.Path.{_≡_, sym, ap, _∙_}
+use mathlib.Core.List.{List}
 use native.Mathlib.Omega.{arith}
 use borrow.Author.Needs.{needs}
 use borrow.Author.Tests.{ne-eqb}
 use lib.ListN.{length, take, drop}
 use Rattle.base.specs.declared.Answer.{Answer}
 use Rattle.base.specs.Answers.{accepted, isAccepted, filled, front}
-use Rattle.base.proofs.Texts.{below-of-test}
 use Rattle.index.specs.Arrays.{Arrays, arrays, textIn}
 use Rattle.words.proofs.Parts.{accepted-checked}
+use Rattle.words.proofs.Positions.{ranks-below}
 use Rattle.documents.specs.Documents.{countsByDocument}
+use Rattle.documents.proofs.Absent.{absent-words}
 use Rattle.questions.specs.Answering.{checkAnswerIn, phraseIn}
+use Rattle.questions.proofs.Askable.{askable-below, absent-at}
 use Rattle.questions.proofs.Answered.{part-length}
 use Rattle.summaries.specs.Summaries.{summaryAnswer, summaryExit, Summarised}
 use Rattle.summaries.proofs.Tested.{summary-checked, summary-asked, summary-accepted, summarised, summary-untouched}
@@ -71,36 +74,12 @@ module _ (c : tie.Else2) where
   passed : Summarised (start .args .s) (start .args .shape) (four start) (start .args .documents .now) (start .args .words .now) (start .args .start) (start .args .count) (length (start .args .counts .now))
   passed = summarised (start .args .s) (start .args .shape) (four start) (start .args .documents .now) (start .args .words .now) (start .args .start) (start .args .count) (length (start .args .counts .now)) (ap isAccepted answered)
 
-add-end : tie.Need-add-end
-add-end c = omega (arith, passed c .inside, far (c .before .before .before .before .before .before .before))
+-- a phrase with an absent word is counted in no document
+has-absent-requires : tie.Need-has-absent-requires
+has-absent-requires c κs = passed c .inside
 
-mul-write-summary : tie.Need-mul-write-summary
-mul-write-summary c = omega (arith, passed c .inside, far (c .before .before .before .before .before .before .before))
-
-sub-write-summary : tie.Need-sub-write-summary
-sub-write-summary c = search needs
-
-part-write-summary-start : tie.Need-part-write-summary-start
-part-write-summary-start c = search needs
-
-part-write-summary-end : tie.Need-part-write-summary-end
-part-write-summary-end c = omega (arith, passed c .inside)
-
-write-summary-requires : tie.Need-write-summary-requires
-unfolding phraseIn
-write-summary-requires c κs =
-    let x = c .before .before in
-    let st = start x in
-    let m : st .args .start + st .args .count - st .args .start ≡ st .args .count = omega arith in
-    let n : length (phraseIn (st .args .words .now) (st .args .start) (st .args .count)) ≡ st .args .count = part-length (st .args .shape .vocabulary) (st .args .words .now) (st .args .start) (st .args .count) (passed x .inside) in
-    rw m (
-      accepted-checked (st .args .s) (st .pre) (st .args .shape) (four st) (ap (λ (y : Answer). y .refusal) (passed x .passed)),
-      omega (arith, n, passed x .some),
-      omega (arith, n, passed x .most),
-      below-of-test (st .args .shape .vocabulary) (phraseIn (st .args .words .now) (st .args .start) (st .args .count)) (passed x .below),
-      passed x .rules,
-      passed x .enough,
-    )
+clear-counts-requires : tie.Need-clear-counts-requires
+clear-counts-requires c κs = passed (c .before .before .before) .enough
 
 accepted-requires : tie.Need-accepted-requires
 accepted-requires c κs = search needs
@@ -109,12 +88,66 @@ same-length : tie.Need-same-length
 same-length c = search needs
 
 returns-3 : tie.Need-returns-3
-unfolding phraseIn summaryExit filled
+unfolding summaryExit filled
 returns-3 c =
-    let x = c .before .before .before .before .before .before in
+    let x = c .before .before .before .before .before .before .before in
+    let st = start x in
+    let phrase = phraseIn (st .args .words .now) (st .args .start) (st .args .count) in
+    let t = textIn (st .args .s) (four st) in
+    let at = absent-at (st .args .shape .vocabulary) phrase (sym (c .before .before .before .before .before .before .has-absent .ensures) ∙ c .before .before .before .before .before .if3 .taken) in
+    let checked-index = accepted-checked (st .args .s) (st .pre) (st .args .shape) (four st) (ap (λ (y : Answer). y .refusal) (passed x .passed)) in
+    let absent = absent-words (st .args .shape .vocabulary) (st .args .documents .now) t (ranks-below checked-index) in (
+      c .accepted .ensures ∙ sym (answered x),
+      c .before .before .before .clear-counts .ensures
+          ∙ ap (λ (counts : List ℕ). front counts (st .args .counts .now)) (sym (absent .uncounted phrase (at .0) (at .1) (at .2)))
+          ∙ sym (rw (answered x)),
+    )
+
+add-end : tie.Need-add-end
+add-end c = omega (arith, passed (c .before .before) .inside, far (c .before .before .before .before .before .before .before .before .before))
+
+mul-write-summary : tie.Need-mul-write-summary
+mul-write-summary c = omega (arith, passed (c .before .before) .inside, far (c .before .before .before .before .before .before .before .before .before))
+
+sub-write-summary : tie.Need-sub-write-summary
+sub-write-summary c = search needs
+
+part-write-summary-start : tie.Need-part-write-summary-start
+part-write-summary-start c = search needs
+
+part-write-summary-end : tie.Need-part-write-summary-end
+part-write-summary-end c = omega (arith, passed (c .before .before) .inside)
+
+write-summary-requires : tie.Need-write-summary-requires
+unfolding phraseIn
+write-summary-requires c κs =
+    let x = c .before .before .before .before in
+    let st = start x in
+    let phrase = phraseIn (st .args .words .now) (st .args .start) (st .args .count) in
+    let m : st .args .start + st .args .count - st .args .start ≡ st .args .count = omega arith in
+    let n : length phrase ≡ st .args .count = part-length (st .args .shape .vocabulary) (st .args .words .now) (st .args .start) (st .args .count) (passed x .inside) in
+    rw m (
+      accepted-checked (st .args .s) (st .pre) (st .args .shape) (four st) (ap (λ (y : Answer). y .refusal) (passed x .passed)),
+      omega (arith, n, passed x .some),
+      omega (arith, n, passed x .most),
+      askable-below (st .args .shape .vocabulary) phrase (passed x .askable) (sym (c .before .before .before .has-absent .ensures) ∙ c .before .before .if3 .left),
+      passed x .rules,
+      passed x .enough,
+    )
+
+accepted-requires-2 : tie.Need-accepted-requires-2
+accepted-requires-2 c κs = search needs
+
+same-length-2 : tie.Need-same-length-2
+same-length-2 c = search needs
+
+returns-4 : tie.Need-returns-4
+unfolding phraseIn summaryExit filled
+returns-4 c =
+    let x = c .before .before .before .before .before .before .before .before in
     let st = start x in
     let m : st .args .start + st .args .count - st .args .start ≡ st .args .count = omega arith in (
-      c .accepted .ensures ∙ sym (answered x),
+      c .accepted2 .ensures ∙ sym (answered x),
       c .before .before .before .write-summary .ensures
           ∙ ap (λ (k : ℕ). front (countsByDocument (st .args .documents .now) (textIn (st .args .s) (four st)) (take k (drop (st .args .start) (st .args .words .now)))) (st .args .counts .now)) m
           ∙ sym (rw (answered x)),
@@ -128,12 +161,17 @@ summary-of-spec =
     returns
     summary-request-requires
     returns-2
+    has-absent-requires
+    clear-counts-requires
+    accepted-requires
+    same-length
+    returns-3
     add-end
     mul-write-summary
     sub-write-summary
     part-write-summary-start
     part-write-summary-end
     write-summary-requires
-    accepted-requires
-    same-length
-    returns-3)
+    accepted-requires-2
+    same-length-2
+    returns-4)
