@@ -1,7 +1,8 @@
 -- `listing::page_of` meets its contract: the tests of the index and of the starts are tried, then those after them, a finished state
 -- comes back, a phrase with an absent word finishes the listing, and otherwise the page is written. Assumes nothing.
-use mathlib.Core.Path.{_≡_, sym, ap, _∙_}
-use mathlib.Core.Bool.{false}
+use Prim.Native.Nat.{ℕ}
+use mathlib.Core.Path.{_≡_, sym, ap, ap₂, _∙_}
+use mathlib.Core.Bool.{true, false}
 use borrow.Author.Tests.{ne-eqb}
 use lib.ListN.{length}
 use Rattle.base.specs.declared.Answer.{Answer}
@@ -131,8 +132,9 @@ returns-4 c =
     let phrase = phraseIn (st .args .words .now) (st .args .start) (st .args .count) in
     let absent = absent-at (st .args .shape .vocabulary) phrase (sym (c .before .before .before .has-absent .ensures) ∙ c .before .before .if4 .taken) in
     let nowhere = absent-words (st .args .shape .vocabulary) (st .args .documents .now) t (ranks-below (checked at)) .stands phrase (absent .0) (absent .1) (absent .2) in
-    rw (c .unwritten4 .ensures, c .before .accepted2 .ensures, c .before .before .before .before .before .before .before .before .text-length .ensures .1 _ _ _ _ _ (checked at))
-    (page-nowhere (callAt st) (st .args .state) (good (c .before .before .before .before .before)) (c .before .before .before .before .if3 .left) nowhere)
+    let n = c .before .before .before .before .before .before .before .before .text-length .ensures .1 _ _ _ _ _ (checked at) in
+    let page = page-nowhere (callAt st) (st .args .state) (good (c .before .before .before .before .before)) (c .before .before .before .before .if3 .left) nowhere in
+    (c .unwritten4 .ensures ∙ ap₂ unwritten (c .before .accepted2 .ensures) (ap (λ (k : ℕ). record { next = k; finished = true }) n) ∙ page .0, page .1)
 
 written-page-requires : tie.Need-written-page-requires
 written-page-requires c κs = (

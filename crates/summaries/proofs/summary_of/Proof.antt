@@ -79,7 +79,7 @@ has-absent-requires : tie.Need-has-absent-requires
 has-absent-requires c κs = passed c .inside
 
 clear-counts-requires : tie.Need-clear-counts-requires
-clear-counts-requires c κs = passed (c .before .before .before) .enough
+clear-counts-requires c κs = omega (arith, passed (c .before .before .before) .enough)
 
 accepted-requires : tie.Need-accepted-requires
 accepted-requires c κs = search needs
