@@ -12,7 +12,7 @@ use lib.Seq.{getD-set-same, getD-set-other, getD-drop}
 use Rattle.base.specs.Lists.{same}
 use Rattle.base.proofs.Tests.{same-or-not}
 use Rattle.base.proofs.Lists.{same-yes, same-true}
-use Rattle.hashing.specs.HashTables.{maxPart, nextWhere, spelledAt, nextIn, indexIn, Starts, Chains}
+use Rattle.hashing.specs.HashTables.{maxPart, nextWhere, passFrom, spelledAt, nextIn, indexIn, indexFrom, Starts, Buckets, Chains}
 use Rattle.lexicon.specs.Reading.{TextWord, word}
 use Rattle.scanning.specs.Scans.{wordsAt, runAt, buckets, bucketFrom, bucketOf}
 
@@ -56,11 +56,6 @@ next-where-none test p (suc n) j e l h = go (test p) refl e (same-or-not j p) (n
     go true q e d ih = absurd (omega arith)
     go false q e (inl m) ih = rw m q
     go false q e (inr m) ih = ih e (omega arith) (omega arith)
-
--- the first number below k that passes, from the one on that is given as 1 and itself; 0 where none is given
-abbrev pub passFrom : (ℕ → Bool) → ℕ → ℕ → ℕ
-passFrom test k zero = 0
-passFrom test k (suc i) = nextWhere test i (k - i)
 
 -- it is looked for among those that pass a weaker test
 pub next-where-jump : (p q : ℕ → Bool) → ((j : ℕ) → p j ≡ true → q j ≡ true) → (k at n : ℕ) → at + n ≡ k → passFrom p k (nextWhere q at n) ≡ nextWhere p at n
@@ -144,33 +139,29 @@ module _ (table list : List ℕ) (from : ℕ) where
   unfolding nextIn
   next-in-bucket k b p i e = eqb-true (bucketOf (spelledAt table list from i)) b (next-where-passes (λ (j : ℕ). eqb (bucketOf (spelledAt table list from j)) b) p (k - p) i e)
 
-  -- 1 and the number of the first of the first k words that is w, from the one on that is given as 1 and its number; 0 where there is none
-  pub indexFrom : ℕ → List ℕ → ℕ → ℕ
-  indexFrom k w n = passFrom (λ (j : ℕ). same w (spelledAt table list from j)) k n
-
   -- the first word that is w is looked for in the bucket of w
-  index-jump : (w : List ℕ) (b k p : ℕ) → b ≡ bucketOf w → p ≤ k → indexFrom k w (nextIn table list from k b p) ≡ nextWhere (λ (j : ℕ). same w (spelledAt table list from j)) p (k - p)
+  index-jump : (w : List ℕ) (b k p : ℕ) → b ≡ bucketOf w → p ≤ k → indexFrom table list from k w (nextIn table list from k b p) ≡ nextWhere (λ (j : ℕ). same w (spelledAt table list from j)) p (k - p)
   unfolding indexFrom nextIn
   index-jump w b k p e h =
       next-where-jump (λ (j : ℕ). same w (spelledAt table list from j)) (λ (j : ℕ). eqb (bucketOf (spelledAt table list from j)) b)
       (λ j q. eq-eqb (bucketOf (spelledAt table list from j)) b (sym (e ∙ ap bucketOf (same-true w (spelledAt table list from j) q)))) k p (k - p) (omega arith)
 
-  pub index-first : (w : List ℕ) (b k : ℕ) → b ≡ bucketOf w → indexFrom k w (nextIn table list from k b 0) ≡ indexIn table list from k w
+  pub index-first : (w : List ℕ) (b k : ℕ) → b ≡ bucketOf w → indexFrom table list from k w (nextIn table list from k b 0) ≡ indexIn table list from k w
   unfolding indexFrom indexIn
   index-first w b k e =
       let m : k - 0 ≡ k = omega arith in
       index-jump w b k 0 e (omega arith) ∙ ap (nextWhere (λ (j : ℕ). same w (spelledAt table list from j)) 0) m
 
   pub index-next : (w : List ℕ) (b k i : ℕ) → b ≡ bucketOf w → i < k → same w (spelledAt table list from i) ≡ false
-      → indexFrom k w (nextIn table list from k b (suc i)) ≡ indexFrom k w (suc i)
+      → indexFrom table list from k w (nextIn table list from k b (suc i)) ≡ indexFrom table list from k w (suc i)
   unfolding indexFrom
   index-next w b k i e h n = index-jump w b k (suc i) e (omega arith) ∙ sym (next-where-no (λ (j : ℕ). same w (spelledAt table list from j)) i k h n)
 
-  pub index-hit : (w : List ℕ) (k i : ℕ) → i < k → same w (spelledAt table list from i) ≡ true → indexFrom k w (suc i) ≡ suc i
+  pub index-hit : (w : List ℕ) (k i : ℕ) → i < k → same w (spelledAt table list from i) ≡ true → indexFrom table list from k w (suc i) ≡ suc i
   unfolding indexFrom
   index-hit w k i h e = next-where-yes (λ (j : ℕ). same w (spelledAt table list from j)) i k h e
 
-  pub index-none : (w : List ℕ) (k : ℕ) → indexFrom k w 0 ≡ 0
+  pub index-none : (w : List ℕ) (k : ℕ) → indexFrom table list from k w 0 ≡ 0
   unfolding indexFrom
   index-none w k = refl
 
@@ -187,6 +178,21 @@ module _ (table list : List ℕ) (from : ℕ) where
   index-absent w k j l e q =
       false≢true (sym (next-where-none (λ (j : ℕ). same w (spelledAt table list from j)) 0 k j e (omega arith) (omega arith)) ∙ same-yes w (spelledAt table list from j) q)
 
+  -- the first word behind the word number i that is w stands there
+  pub index-later : (w : List ℕ) (k i j : ℕ) → i < k → indexFrom table list from k w (nextIn table list from k (bucketOf w) (suc i)) ≡ suc j → (i < j) × (j < k) × (w ≡ spelledAt table list from j)
+  index-later w k i j h e =
+      let q : nextWhere (λ (j : ℕ). same w (spelledAt table list from j)) (suc i) (k - suc i) ≡ suc j = sym (index-jump w (bucketOf w) k (suc i) refl h) ∙ e in (
+        next-where-from (λ (j : ℕ). same w (spelledAt table list from j)) (suc i) (k - suc i) j q,
+        omega (arith, next-where-most (λ (j : ℕ). same w (spelledAt table list from j)) (suc i) (k - suc i)),
+        same-true w (spelledAt table list from j) (next-where-passes (λ (j : ℕ). same w (spelledAt table list from j)) (suc i) (k - suc i) j q),
+      )
+
+  -- where there is none, none behind it is w
+  pub index-no-later : (w : List ℕ) (k i j : ℕ) → indexFrom table list from k w (nextIn table list from k (bucketOf w) (suc i)) ≡ 0 → i < j → j < k → w ≡ spelledAt table list from j → ⊥
+  index-no-later w k i j e l h q =
+      false≢true (sym (next-where-none (λ (j : ℕ). same w (spelledAt table list from j)) (suc i) (k - suc i) j (sym (index-jump w (bucketOf w) k (suc i) refl (omega arith)) ∙ e) l (omega arith))
+      ∙ same-yes w (spelledAt table list from j) q)
+
   -- ---- the hash table
 
   -- no word is in it
@@ -194,9 +200,8 @@ module _ (table list : List ℕ) (from : ℕ) where
   chains-none k heads links s e l =
       record {
         headsLong = s;
-        linksLong = l;
         head = λ b h. e b h ∙ sym (next-in-end k b);
-        link = λ i (h : k ≤ i) (m : i < k). absurd (omega arith);
+        linked = record { long = l; link = λ i (h : k ≤ i) (m : i < k). absurd (omega arith) };
       }
 
   -- one word more, in front of those that are in it
@@ -205,9 +210,8 @@ module _ (table list : List ℕ) (from : ℕ) where
   chains-front k p heads links b c m few e =
       record {
         headsLong = length-set heads b (suc p) ∙ c .headsLong;
-        linksLong = length-set links p (getD heads b 0) ∙ c .linksLong;
         head = λ d h. head-more d h (same-or-not d b);
-        link = λ j h l. link-more j h l (same-or-not j p);
+        linked = record { long = length-set links p (getD heads b 0) ∙ c .linked .long; link = λ j h l. link-more j h l (same-or-not j p) };
       }
     where
       head-more : (d : ℕ) → d < buckets → (d ≡ b) ⊎ (d ≡ b → ⊥) → getD (set heads b (suc p)) d 0 ≡ nextIn table list from k d p
@@ -218,9 +222,9 @@ module _ (table list : List ℕ) (from : ℕ) where
 
       link-more : (j : ℕ) → p ≤ j → j < k → (j ≡ p) ⊎ (j ≡ p → ⊥) → getD (set links p (getD heads b 0)) j 0 ≡ nextIn table list from k (bucketOf (spelledAt table list from j)) (suc j)
       link-more j h l (inl q) =
-          let i : p < length links = omega (arith, c .linksLong) in
+          let i : p < length links = omega (arith, c .linked .long) in
           rw q (getD-set-same links p (getD heads b 0) 0 i ∙ c .head b (rw e (bucket-below (spelledAt table list from p))) ∙ ap (λ (d : ℕ). nextIn table list from k d (suc p)) e)
-      link-more j h l (inr n) = getD-set-other links p j (getD heads b 0) 0 n ∙ c .link j (omega arith) l
+      link-more j h l (inr n) = getD-set-other links p j (getD heads b 0) 0 n ∙ c .linked .link j (omega arith) l
 
   pub chains-more : (k word : ℕ) (heads links : List ℕ) (b : ℕ) → Chains table list from k word heads links → 0 < word → word ≤ k → k ≤ maxPart
       → b ≡ bucketOf (spelledAt table list from (word - 1)) → Chains table list from k (word - 1) (set heads b word) (set links (word - 1) (getD heads b 0))
@@ -245,6 +249,30 @@ module _ (table list : List ℕ) (from : ℕ) where
           let l : k < length starts = omega (arith, p .long) in
           rw (q, getD-set-same starts k at 0 l) (i, w)
       start-more j h (inr n) = rw (getD-set-other starts k j at 0 n) (p .start j (omega arith))
+
+  -- no bucket is noted yet
+  pub buckets-none : (noted : List ℕ) → length noted ≡ maxPart → Buckets table list from 0 noted
+  buckets-none noted s = record { long = s; bucket = λ i (h : i < 0). absurd (omega arith) }
+
+  -- one word more
+  pub buckets-more : (k : ℕ) (noted : List ℕ) (b : ℕ) → Buckets table list from k noted → k < maxPart → b ≡ bucketOf (spelledAt table list from k) → Buckets table list from (k + 1) (set noted k b)
+  buckets-more k noted b p few e =
+      let s : k + 1 ≡ suc k = omega arith in
+      rw s (record { long = length-set noted k b ∙ p .long; bucket = λ j h. bucket-more j h (same-or-not j k) })
+    where
+      bucket-more : (j : ℕ) → j < suc k → (j ≡ k) ⊎ (j ≡ k → ⊥) → getD (set noted k b) j 0 ≡ bucketOf (spelledAt table list from j)
+      bucket-more j h (inl q) =
+          let l : k < length noted = omega (arith, p .long) in
+          rw q (getD-set-same noted k b 0 l ∙ e)
+      bucket-more j h (inr n) = getD-set-other noted k j b 0 n ∙ p .bucket j (omega arith)
+
+  -- the buckets of the words before the one whose bucket is taken away stay
+  pub buckets-less : (word : ℕ) (noted : List ℕ) (x : ℕ) → Buckets table list from word noted → 0 < word → Buckets table list from (word - 1) (set noted (word - 1) x)
+  buckets-less word noted x p h =
+      record {
+        long = length-set noted (word - 1) x ∙ p .long;
+        bucket = λ i (l : i < word - 1). getD-set-other noted (word - 1) i x 0 (λ (e : i ≡ word - 1). absurd (omega arith)) ∙ p .bucket i (omega arith);
+      }
 
   -- ---- going through the words
 

@@ -3,12 +3,12 @@
 ghost use mathlib.Core.Path.{_≡_};
 ghost use mathlib.Core.Bool.{true};
 ghost use Prim.Native.Nat.{_≤_};
-ghost use lib.ListN.{length};
+ghost use lib.ListN.{length, drop};
 ghost use Rattle.lexicon.specs.Letters.{isTable};
 ghost use Rattle.lexicon.specs.Lexicon.{listSize, distinct, isWritten};
 ghost use Rattle.lexicon.specs.Reading.{spellings};
 ghost use Rattle.scanning.specs.Scans.{wordsAt, WordBegins};
-ghost use Rattle.hashing.specs.HashTables.{maxPart, Room, HashTable};
+ghost use Rattle.hashing.specs.HashTables.{maxPart, Room, Starts, Links, HashTable};
 ghost use Rattle.list_rules.specs.Repeats.{isUnrepeated};
 
 // The number of words of a list, which is that of its closing bytes.
@@ -55,8 +55,33 @@ pub fn is_written(table: &[u8], list: &[u8]) -> bool
     !begun
 }
 
+// Whether no word of a part of a list is spelled like a later one of it.
+fn is_part_distinct(
+    table: &[u8],
+    list: &[u8],
+    from: usize,
+    count: usize,
+    links: &[u32],
+    starts: &[usize],
+) -> bool
+    requires { ⌜ (isTable (now table) ≡ true) × (count ≤ maxPart) × Starts (now table) (now list) from count (now starts) × Links (now table) (now list) from count 0 (now links) ⌝ }
+    ensures { λ r. ⌜ r ≡ isUnrepeated (now (table .entry)) (now (list .entry)) from count count ⌝ }
+{
+    let mut word: usize = 0;
+    while word < count {
+        let start = starts[word];
+        let next = links[word] as usize;
+        let later = hashing::find_from(table, list, from, count, links, starts, list, start, next);
+        if 0 < later {
+            return false;
+        }
+        word += 1;
+    }
+    true
+}
+
 // Whether none of so many words of a list from an offset on is in the part there at another place
-// than its own.
+// than its own, where the part is distinct and the words behind it begin at `behind`.
 fn is_unrepeated(
     table: &[u8],
     list: &[u8],
@@ -65,13 +90,14 @@ fn is_unrepeated(
     heads: &[u32],
     links: &[u32],
     starts: &[usize],
+    behind: usize,
     size: usize,
 ) -> bool
-    requires { ⌜ (isTable (now table) ≡ true) × HashTable (now table) (now list) from count (now heads) (now links) (now starts) × WordBegins (now table) (now list) from × (size ≤ length (wordsAt (now table) (now list) from)) ⌝ }
+    requires { ⌜ (isTable (now table) ≡ true) × HashTable (now table) (now list) from count (now heads) (now links) (now starts) × (isUnrepeated (now table) (now list) from count count ≡ true) × WordBegins (now table) (now list) behind × (wordsAt (now table) (now list) behind ≡ drop count (wordsAt (now table) (now list) from)) × (count ≤ size) × (size ≤ length (wordsAt (now table) (now list) from)) ⌝ }
     ensures { λ r. ⌜ r ≡ isUnrepeated (now (table .entry)) (now (list .entry)) from count size ⌝ }
 {
-    let mut at = from;
-    let mut word: usize = 0;
+    let mut at = behind;
+    let mut word = count;
     while word < size {
         let scan = scanning::scan_word(table, list, at);
         let bucket = scan.bucket;
@@ -88,33 +114,34 @@ fn is_unrepeated(
             at,
             bucket,
         );
-        word += 1;
         if 0 < found {
-            if found != word {
-                return false;
-            }
+            return false;
         }
+        word += 1;
         at = scanning::word_start(table, list, end);
     }
     true
 }
 
-// The same, with the hash table of the part made in the slices that are lent.
+// The same where it is not known that the part is distinct.
 fn is_part_unrepeated(
     table: &[u8],
     list: &[u8],
     from: usize,
     count: usize,
-    heads: &mut [u32],
-    links: &mut [u32],
-    starts: &mut [usize],
+    heads: &[u32],
+    links: &[u32],
+    starts: &[usize],
+    behind: usize,
     size: usize,
 ) -> bool
-    requires { ⌜ (isTable (now table) ≡ true) × WordBegins (now table) (now list) from × (count ≤ maxPart) × (count ≤ length (wordsAt (now table) (now list) from)) × (size ≤ length (wordsAt (now table) (now list) from)) × Room (now heads) (now links) (now starts) ⌝ }
+    requires { ⌜ (isTable (now table) ≡ true) × HashTable (now table) (now list) from count (now heads) (now links) (now starts) × WordBegins (now table) (now list) behind × (wordsAt (now table) (now list) behind ≡ drop count (wordsAt (now table) (now list) from)) × (count ≤ size) × (size ≤ length (wordsAt (now table) (now list) from)) ⌝ }
     ensures { λ r. ⌜ r ≡ isUnrepeated (now (table .entry)) (now (list .entry)) from count size ⌝ }
 {
-    hashing::hash_part(table, list, from, count, heads, links, starts);
-    is_unrepeated(table, list, from, count, heads, links, starts, size)
+    if !is_part_distinct(table, list, from, count, links, starts) {
+        return false;
+    }
+    is_unrepeated(table, list, from, count, heads, links, starts, behind, size)
 }
 
 // Whether no word of a list is there twice, part by part.
@@ -133,6 +160,7 @@ pub fn is_distinct(
     let mut first: usize = 0;
     while first < words {
         let count = base::least(words - first, hashing::MAX_PART);
+        let behind = hashing::hash_part(table, list, from, count, heads, links, starts);
         if !is_part_unrepeated(
             table,
             list,
@@ -141,11 +169,12 @@ pub fn is_distinct(
             heads,
             links,
             starts,
+            behind,
             words - first,
         ) {
             return false;
         }
-        from = scanning::skip_words(table, list, from, count);
+        from = behind;
         first += count;
     }
     true

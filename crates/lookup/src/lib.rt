@@ -8,7 +8,7 @@ ghost use Rattle.lexicon.specs.Letters.{isTable};
 ghost use Rattle.lexicon.specs.Lexicon.{distinct};
 ghost use Rattle.lexicon.specs.Reading.{textWords, spellings};
 ghost use Rattle.scanning.specs.Scans.{wordsAt, WordBegins};
-ghost use Rattle.hashing.specs.HashTables.{maxPart, Room, HashTable};
+ghost use Rattle.hashing.specs.HashTables.{Room, HashTable};
 ghost use Rattle.lookup.specs.Lookups.{countIn, countListed, firstMissing};
 
 // How many of so many words of a text from a position on are in a part of a list.
@@ -55,37 +55,6 @@ fn count_found(
     found
 }
 
-// The same, with the hash table of the part made in the slices that are lent.
-fn count_in_part(
-    table: &[u8],
-    list: &[u8],
-    from: usize,
-    count: usize,
-    heads: &mut [u32],
-    links: &mut [u32],
-    starts: &mut [usize],
-    text: &[u8],
-    at: usize,
-    size: usize,
-) -> usize
-    requires { ⌜ (isTable (now table) ≡ true) × WordBegins (now table) (now list) from × (count ≤ maxPart) × (count ≤ length (wordsAt (now table) (now list) from)) × WordBegins (now table) (now text) at × (size ≤ length (wordsAt (now table) (now text) at)) × Room (now heads) (now links) (now starts) ⌝ }
-    ensures { λ r. ⌜ r ≡ countIn (now (table .entry)) (now (list .entry)) from count (take size (wordsAt (now (table .entry)) (now (text .entry)) at)) ⌝ }
-{
-    hashing::hash_part(table, list, from, count, heads, links, starts);
-    count_found(
-        table,
-        list,
-        from,
-        count,
-        heads,
-        links,
-        starts,
-        text,
-        at,
-        size,
-    )
-}
-
 // How many of so many words of a text from a position on are in a list, part by part.
 pub fn count_listed(
     table: &[u8],
@@ -106,7 +75,8 @@ pub fn count_listed(
     let mut found: usize = 0;
     while first < words {
         let count = base::least(words - first, hashing::MAX_PART);
-        found += count_in_part(
+        let behind = hashing::hash_part(table, list, from, count, heads, links, starts);
+        found += count_found(
             table,
             list,
             from,
@@ -118,7 +88,7 @@ pub fn count_listed(
             at,
             size,
         );
-        from = scanning::skip_words(table, list, from, count);
+        from = behind;
         first += count;
     }
     found

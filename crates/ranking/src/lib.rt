@@ -7,8 +7,7 @@ ghost use lib.ListN.{length, set};
 ghost use Rattle.base.specs.Answers.{front};
 ghost use Rattle.lexicon.specs.Letters.{isTable};
 ghost use Rattle.lexicon.specs.Reading.{textWords, spellings};
-ghost use Rattle.scanning.specs.Scans.{wordsAt, WordBegins};
-ghost use Rattle.hashing.specs.HashTables.{maxPart, Room, HashTable};
+ghost use Rattle.hashing.specs.HashTables.{Room, HashTable};
 ghost use Rattle.ranking.specs.Ranks.{ranksIn, Ranked, Rankable};
 
 // Writes the rank of a word that was found at its place; one that was not stays.
@@ -63,39 +62,6 @@ fn write_found(
     }
 }
 
-// The same, with the hash table of the part made in the slices that are lent.
-fn write_part(
-    table: &[u8],
-    list: &[u8],
-    from: usize,
-    count: usize,
-    heads: &mut [u32],
-    links: &mut [u32],
-    starts: &mut [usize],
-    first: usize,
-    text: &[u8],
-    size: usize,
-    ranks: &mut [u32],
-)
-    requires { ⌜ (isTable (now table) ≡ true) × WordBegins (now table) (now list) from × (count ≤ maxPart) × (count ≤ length (wordsAt (now table) (now list) from)) × (first + count ≤ 4294967295) × (size ≡ length (textWords (now table) (now text))) × (size ≤ length (now ranks)) × Room (now heads) (now links) (now starts) ⌝ }
-    ensures { λ _. ⌜ Ranked (now (table .entry)) (now (list .entry)) from count first (textWords (now (table .entry)) (now (text .entry))) (now (ranks .entry)) (now (ranks .exit)) ⌝ }
-{
-    hashing::hash_part(table, list, from, count, heads, links, starts);
-    write_found(
-        table,
-        list,
-        from,
-        count,
-        heads,
-        links,
-        starts,
-        first,
-        text,
-        size,
-        ranks,
-    )
-}
-
 // Writes the ranks of the words of a text, all of them listed, to the front of a slice, part by
 // part. The rest stays.
 pub fn write_ranks(
@@ -116,7 +82,8 @@ pub fn write_ranks(
     let mut first: usize = 0;
     while first < words {
         let count = base::least(words - first, hashing::MAX_PART);
-        write_part(
+        let behind = hashing::hash_part(table, list, from, count, heads, links, starts);
+        write_found(
             table,
             list,
             from,
@@ -129,7 +96,7 @@ pub fn write_ranks(
             size,
             ranks,
         );
-        from = scanning::skip_words(table, list, from, count);
+        from = behind;
         first += count;
     }
 }

@@ -1,144 +1,59 @@
--- `hashing::find` meets its contract. The loop's invariant: no word of the part from here on is the one looked for. Assumes nothing.
-use Prim.Native.Nat.{ℕ, suc, _-_, _≤_, _<_}
-use mathlib.Core.Path.{_≡_, sym, ap, _∙_}
+-- `hashing::find` meets its contract: the look-up along the bucket, from its first word on. Assumes nothing.
+use Prim.Native.Nat.{_-_, _<_}
+use mathlib.Core.Path.{_≡_, ap, _∙_}
 use native.Mathlib.Omega.{arith}
-use borrow.Author.Needs.{needs}
 use lib.ListN.{getD}
-use Rattle.base.specs.Lists.{same}
-use Rattle.hashing.proofs.HashTables.{chainLeft, chain-left-less, bucket-below, next-in-most, next-in-from, next-in-bucket, indexFrom, index-first, index-next, index-hit, index-none}
-use Rattle.hashing.specs.HashTables.{spelledAt, nextIn, indexIn}
-use Rattle.scanning.proofs.Scans.{none}
-use Rattle.scanning.specs.Scans.{runAt, bucketOf}
+use Rattle.hashing.proofs.HashTables.{bucket-below, next-in-most, next-in-bucket, index-first}
+use Rattle.hashing.specs.HashTables.{nextIn, indexFrom}
+use Rattle.scanning.specs.Scans.{runAt, buckets}
 use Rattle.hashing.proofs.find.Statement.{statement}
 use Rattle.hashing.proofs.find.Tie as tie
 
-abbrev Inv-loop : tie.InvT-loop
-Inv-loop table list from count heads links starts text at bucket word₀ word = (word ≤ count) × (indexFrom table list from count (runAt table text at) word ≡ indexIn table list from count (runAt table text at))
-    × (0 < word → bucketOf (spelledAt table list from (word - 1)) ≡ bucket)
+-- the bucket is there
+inside-of : (c : tie.After-shared-slice-known6) → c .before .before .before .before .before .before .args .bucket < buckets
+inside-of c =
+    let a = c .before .before .before .before .before .before .args in
+    omega (arith, c .before .before .before .before .before .before .pre .3, bucket-below (runAt (a .table .now) (a .text .now) (a .at)))
 
-abbrev μ-loop : tie.MeasureT-loop
-μ-loop table list from count heads links starts text at bucket word₀ word = chainLeft count word
+-- its first word
+first-of : (c : tie.After-shared-slice-known6) → getD (c .before .before .before .before .before .before .args .heads .now) (c .before .before .before .before .before .before .args .bucket) 0
+    ≡ nextIn (c .before .before .before .before .before .before .args .table .now) (c .before .before .before .before .before .before .args .list .now) (c .before .before .before .before .before .before .args .from) (c .before .before .before .before .before .before .args .count) (c .before .before .before .before .before .before .args .bucket) 0
+first-of c = c .before .before .before .before .before .before .pre .1 .chained .head (c .before .before .before .before .before .before .args .bucket) (inside-of c)
 
--- the word compared agrees with the one looked for exactly if they are spelled alike
-compared : (c : tie.After-same-word Inv-loop μ-loop) → c .same-word .result
-    ≡ same (runAt (c .before .before .before .before .before .before .before .before .before .before .before .args .table .now) (c .before .before .before .before .before .before .before .before .before .before .before .args .text .now) (c .before .before .before .before .before .before .before .before .before .before .before .args .at)) (spelledAt (c .before .before .before .before .before .before .before .before .before .before .before .args .table .now) (c .before .before .before .before .before .before .before .before .before .before .before .args .list .now) (c .before .before .before .before .before .before .before .before .before .before .before .args .from) (c .before .before .before .loop .word - 1))
-compared c =
-    let start = c .before .before .before .before .before .before .before .before .before .before .before in
-    let a = start .args in
-    c .same-word .ensures
-    ∙ ap (same (runAt (a .table .now) (a .text .now) (a .at)))
-    (start .pre .1 .begun .start (c .before .before .before .loop .word - 1) (omega (arith, c .before .before .before .loop .inv .0, c .before .before .loop-test .taken)) .1)
+mul-word : tie.Need-mul-word
+mul-word c = omega (arith, inside-of c)
 
--- the next word of its bucket
-linked : (c : tie.In-loop Inv-loop μ-loop) → getD (c .before .before .before .before .before .before .before .before .before .args .links .now) (c .before .loop .word - 1) 0
-    ≡ nextIn (c .before .before .before .before .before .before .before .before .before .args .table .now) (c .before .before .before .before .before .before .before .before .before .args .list .now) (c .before .before .before .before .before .before .before .before .before .args .from) (c .before .before .before .before .before .before .before .before .before .args .count) (c .before .before .before .before .before .before .before .before .before .args .bucket) (suc (c .before .loop .word - 1))
-linked c =
-    let start = c .before .before .before .before .before .before .before .before .before in
-    let a = start .args in
-    start .pre .1 .chained .link (c .before .loop .word - 1) (omega arith) (omega (arith, c .before .loop .inv .0, c .loop-test .taken))
-    ∙ ap (λ (b : ℕ). nextIn (a .table .now) (a .list .now) (a .from) (a .count) b (suc (c .before .loop .word - 1))) (c .before .loop .inv .2 (c .loop-test .taken))
+shared-slice-read-word : tie.Need-shared-slice-read-word
+shared-slice-read-word c = omega (arith, inside-of (c .before), c .before .before .before .before .before .before .before .pre .1 .chained .headsLong)
 
-mul-word : tie.Need-mul-word Inv-loop μ-loop
-mul-word c = omega (arith, c .before .before .before .before .before .before .pre .3, bucket-below (runAt (c .before .before .before .before .before .before .args .table .now) (c .before .before .before .before .before .before .args .text .now) (c .before .before .before .before .before .before .args .at)))
-
-shared-slice-read-word : tie.Need-shared-slice-read-word Inv-loop μ-loop
-shared-slice-read-word c = omega (arith, c .before .before .before .before .before .before .before .pre .3, bucket-below (runAt (c .before .before .before .before .before .before .before .args .table .now) (c .before .before .before .before .before .before .before .args .text .now) (c .before .before .before .before .before .before .before .args .at)), c .before .before .before .before .before .before .before .pre .1 .chained .headsLong)
-
-cast-word : tie.Need-cast-word Inv-loop μ-loop
+cast-word : tie.Need-cast-word
 cast-word c = omega (arith, c .shared-slice-known7 .given (c .before .before .before .before .before .before .before .args .bucket))
 
-loop-holds : tie.Need-loop-holds Inv-loop μ-loop
-loop-holds c = let start = c .before .before .before .before .before .before .before in
+find-from-requires : tie.Need-find-from-requires
+find-from-requires c κs = let start = c .before .before .before .before .before .before .before in
     let a = start .args in
-    let w = runAt (a .table .now) (a .text .now) (a .at) in
-    let e : getD (a .heads .now) (a .bucket) 0 ≡ nextIn (a .table .now) (a .list .now) (a .from) (a .count) (a .bucket) 0 =
-    start .pre .1 .chained .head (a .bucket) (omega (arith, start .pre .3, bucket-below w)) in (
+    let e = first-of (c .before) in (
+      start .pre .0,
+      start .pre .1 .few,
+      start .pre .1 .begun,
+      start .pre .1 .chained .linked,
+      start .pre .2,
       omega (arith, e, next-in-most (a .table .now) (a .list .now) (a .from) (a .count) (a .bucket) 0 (omega arith)),
-      ap (indexFrom (a .table .now) (a .list .now) (a .from) (a .count) w) e ∙ index-first (a .table .now) (a .list .now) (a .from) w (a .bucket) (a .count) (start .pre .3),
-      λ (h : 0 < getD (a .heads .now) (a .bucket) 0). next-in-bucket (a .table .now) (a .list .now) (a .from) (a .count) (a .bucket) 0 (getD (a .heads .now) (a .bucket) 0 - 1) (omega (arith, e, h)),
+      λ (h : 0 < getD (a .heads .now) (a .bucket) 0). next-in-bucket (a .table .now) (a .list .now) (a .from) (a .count) (a .bucket) 0 (getD (a .heads .now) (a .bucket) 0 - 1) (omega (arith, e, h)) ∙ start .pre .3,
     )
 
-sub-start : tie.Need-sub-start Inv-loop μ-loop
-sub-start c = search needs
-
-mul-start : tie.Need-mul-start Inv-loop μ-loop
-mul-start c = search needs
-
-shared-slice-read-start : tie.Need-shared-slice-read-start Inv-loop μ-loop
-shared-slice-read-start c = search needs
-
-same-word-requires : tie.Need-same-word-requires Inv-loop μ-loop
-same-word-requires c κs = let start = c .before .before .before .before .before .before .before .before .before .before in
-    (start .pre .0, start .pre .2, start .pre .1 .begun .start (c .before .before .loop .word - 1) (omega (arith, c .before .before .loop .inv .0, c .before .loop-test .taken)) .0)
-
-returns : tie.Need-returns Inv-loop μ-loop
-returns c = let a = c .before .before .before .before .before .before .before .before .before .before .before .before .args in
-    let loop = c .before .before .before .before .loop in
-    let w = runAt (a .table .now) (a .text .now) (a .at) in
-    let e : loop .word ≡ suc (loop .word - 1) = omega (arith, c .before .before .before .loop-test .taken) in
-    e ∙ sym (index-hit (a .table .now) (a .list .now) (a .from) w (a .count) (loop .word - 1) (omega (arith, loop .inv .0, c .before .before .before .loop-test .taken)) (sym (compared (c .before)) ∙ c .if1 .taken))
-    ∙ ap (indexFrom (a .table .now) (a .list .now) (a .from) (a .count) w) (sym e) ∙ loop .inv .1
-
-sub-word : tie.Need-sub-word Inv-loop μ-loop
-sub-word c = search needs
-
-mul-word-2 : tie.Need-mul-word-2 Inv-loop μ-loop
-mul-word-2 c = search needs
-
-shared-slice-read-word-2 : tie.Need-shared-slice-read-word-2 Inv-loop μ-loop
-shared-slice-read-word-2 c = search needs
-
-cast-word-2 : tie.Need-cast-word-2 Inv-loop μ-loop
-cast-word-2 c = omega (arith, c .shared-slice-known9 .given (c .before .before .before .before .before .loop .word - 1))
-
-loop-less : tie.Need-loop-less Inv-loop μ-loop
-loop-less c = let a = c .before .before .before .before .before .before .before .before .before .before .before .before .before .args in
-    let loop = c .before .before .before .before .before .loop in
-    let l = linked (c .before .before .before .before) in
-    chain-left-less (a .count) (loop .word) (getD (a .links .now) (loop .word - 1) 0) (c .before .before .before .before .loop-test .taken) (loop .inv .0)
-    (omega (arith, l, next-in-most (a .table .now) (a .list .now) (a .from) (a .count) (a .bucket) (suc (loop .word - 1)) (omega (arith, c .before .before .before .before .loop-test .taken, loop .inv .0))))
-    (λ i e. omega (arith, next-in-from (a .table .now) (a .list .now) (a .from) (a .count) (a .bucket) (suc (loop .word - 1)) i (sym l ∙ e)))
-
-loop-again : tie.Need-loop-again Inv-loop μ-loop
-loop-again c = let start = c .before .before .before .before .before .before .before .before .before .before .before .before .before in
+returns : tie.Need-returns
+returns c = let start = c .before .before .before .before .before .before .before .before in
     let a = start .args in
-    let loop = c .before .before .before .before .before .loop in
     let w = runAt (a .table .now) (a .text .now) (a .at) in
-    let e : loop .word ≡ suc (loop .word - 1) = omega (arith, c .before .before .before .before .loop-test .taken) in
-    let h : loop .word - 1 < a .count = omega (arith, loop .inv .0) in
-    let l = linked (c .before .before .before .before) in (
-      omega (arith, l, next-in-most (a .table .now) (a .list .now) (a .from) (a .count) (a .bucket) (suc (loop .word - 1)) (omega arith)),
-      ap (indexFrom (a .table .now) (a .list .now) (a .from) (a .count) w) l
-          ∙ index-next (a .table .now) (a .list .now) (a .from) w (a .bucket) (a .count) (loop .word - 1) (start .pre .3) h (sym (compared (c .before .before)) ∙ c .before .if1 .left)
-          ∙ ap (indexFrom (a .table .now) (a .list .now) (a .from) (a .count) w) (sym e) ∙ loop .inv .1,
-      λ (n : 0 < getD (a .links .now) (loop .word - 1) 0). next-in-bucket (a .table .now) (a .list .now) (a .from) (a .count) (a .bucket) (suc (loop .word - 1)) (getD (a .links .now) (loop .word - 1) 0 - 1) (omega (arith, l, n)),
-    )
-
-returns-2 : tie.Need-returns-2 Inv-loop μ-loop
-returns-2 c = let a = c .before .before .before .before .before .before .before .before .before .args in
-    let w = runAt (a .table .now) (a .text .now) (a .at) in
-    sym (index-none (a .table .now) (a .list .now) (a .from) w (a .count))
-    ∙ ap (indexFrom (a .table .now) (a .list .now) (a .from) (a .count) w) (sym (none (c .before .loop .word) (c .loop-test .left))) ∙ c .before .loop .inv .1
+    c .find-from .ensures ∙ ap (indexFrom (a .table .now) (a .list .now) (a .from) (a .count) w) (first-of (c .before .before)) ∙ index-first (a .table .now) (a .list .now) (a .from) w (a .bucket) (a .count) (start .pre .3)
 
 pub find-spec : {M : Type 1} → statement M
 find-spec =
     tie.close
     (tie.spec
-    Inv-loop
-    μ-loop
     mul-word
     shared-slice-read-word
     cast-word
-    loop-holds
-    sub-start
-    mul-start
-    shared-slice-read-start
-    same-word-requires
-    returns
-    sub-word
-    mul-word-2
-    shared-slice-read-word-2
-    cast-word-2
-    loop-less
-    loop-again
-    returns-2)
+    find-from-requires
+    returns)

@@ -1,4 +1,4 @@
--- `hashing::hash_part` meets its contract: an empty hash table, the starts of the words, and the words in their buckets. Assumes nothing.
+-- `hashing::hash_part` meets its contract: an empty hash table, the starts and the buckets of the words, and the words in their buckets. Assumes nothing.
 use Prim.Native.Nat.{_<_}
 use mathlib.Core.Path.{_∙_}
 use native.Mathlib.Omega.{arith}
@@ -15,13 +15,13 @@ note-starts-requires : tie.Need-note-starts-requires
 note-starts-requires c κs = search needs
 
 chain-requires : tie.Need-chain-requires
-chain-requires c κs = let start = c .before .before .before .before .before .before .before .before .before .before .before .before .before .before .before .before in
+chain-requires c κs = let start = c .before .before .before .before .before .before .before .before .before .before .before .before .before .before .before .before .before .before in
     let a = start .args in
-    let cleared = c .before .before .before .before .before .before .before .before .before .clear-buckets in (
-      start .pre .0,
+    let cleared = c .before .before .before .before .before .before .before .before .before .before .before .clear-buckets in
+    let noted = c .before .before .before .before .before .before .note-starts .ensures in (
       start .pre .2,
-      c .before .before .before .before .before .note-starts .ensures,
-      chains-none (a .table .now) (a .list .now) (a .from) (a .count) _ _ (cleared .kept .0 ∙ start .pre .4 .headsLong) (λ b (h : b < buckets). cleared .ensures b (omega (arith, start .pre .4 .headsLong))) (start .pre .4 .linksLong),
+      noted .1,
+      chains-none (a .table .now) (a .list .now) (a .from) (a .count) _ _ (cleared .kept .0 ∙ start .pre .4 .headsLong) (λ b (h : b < buckets). cleared .ensures b (omega (arith, start .pre .4 .headsLong))) (noted .1 .long),
     )
 
 same-length : tie.Need-same-length

@@ -55,40 +55,42 @@ sub-least c = omega (arith, c .loop-test .taken)
 least-requires : tie.Need-least-requires Inv-loop μ-loop
 least-requires c κs = search needs
 
+hash-part-requires : tie.Need-hash-part-requires Inv-loop μ-loop
+hash-part-requires c κs = let i = inside-of (c .before .before .before) in
+    (c .before .before .before .before .before .before .before .before .before .before .before .before .pre .0, c .before .before .before .before .before .loop .inv .1, i .0, omega (arith, i .1, i .2), c .before .before .before .before .before .loop .inv .4)
+
 sub-is-part-unrepeated : tie.Need-sub-is-part-unrepeated Inv-loop μ-loop
-sub-is-part-unrepeated c = omega (arith, c .before .before .before .before .loop-test .taken)
+sub-is-part-unrepeated c = omega (arith, c .before .before .before .before .before .before .before .before .before .before .before .before .before .before .loop-test .taken)
 
 is-part-unrepeated-requires : tie.Need-is-part-unrepeated-requires Inv-loop μ-loop
-is-part-unrepeated-requires c κs = let start = c .before .before .before .before .before .before .before .before .before .before .before .before in
-    let i = inside-of (c .before .before .before) in
-    (start .pre .0, c .before .before .before .before .before .loop .inv .1, i .0, omega (arith, i .1, i .2), omega (arith, i .2), c .before .before .before .before .before .loop .inv .4)
+is-part-unrepeated-requires c κs = let hashed = c .before .before .before .before .before .before .before .before .before .hash-part .ensures in
+    let i = inside-of (c .before .before .before .before .before .before .before .before .before .before .before .before .before) in
+    (c .before .before .before .before .before .before .before .before .before .before .before .before .before .before .before .before .before .before .before .before .before .before .pre .0, hashed .0, hashed .1, hashed .2, i .1, omega (arith, i .2))
 
 returns : tie.Need-returns Inv-loop μ-loop
-returns c = let a = c .before .before .before .before .before .before .before .before .before .before .before .before .before .before .before .before .before .before .before .before .args in
-    let loop = c .before .before .before .before .before .before .before .before .before .before .before .before .before .loop in
-    let i = inside-of (c .before .before .before .before .before .before .before .before .before .before .before) in
-    let w = unrepeated-which (a .table .now) (a .list .now) (loop .from) (c .before .before .before .before .before .before .before .before .before .before .before .least .result) (a .words - loop .first) (sym (c .before .before .before .before .before .before .before .is-part-unrepeated .ensures) ∙ not-true (c .before .before .before .before .before .before .before .is-part-unrepeated .result) (c .if1 .taken)) in
-    sym (repeated (a .table .now) (a .list .now) (loop .from) (loop .first) (loop .inv .2) (c .before .before .before .before .before .before .before .before .before .before .before .least .result) (a .words - loop .first) _ (i .3) (i .1) (w .0) (w .1))
-
-skip-words-requires : tie.Need-skip-words-requires Inv-loop μ-loop
-skip-words-requires c κs = let i = inside-of (c .before .before .before .before .before .before .before .before .before .before .before) in
-    (c .before .before .before .before .before .before .before .before .before .before .before .before .before .before .before .before .before .before .before .before .pre .0, c .before .before .before .before .before .before .before .before .before .before .before .before .before .loop .inv .1, omega (arith, i .1, i .2))
+returns c = let a = c .before .before .before .before .before .before .before .before .before .before .before .before .before .before .before .before .before .before .before .before .before .before .before .before .args in
+    let loop = c .before .before .before .before .before .before .before .before .before .before .before .before .before .before .before .before .before .loop in
+    let count = c .before .before .before .before .before .before .before .before .before .before .before .before .before .before .before .least .result in
+    let i = inside-of (c .before .before .before .before .before .before .before .before .before .before .before .before .before .before .before) in
+    let w = unrepeated-which (a .table .now) (a .list .now) (loop .from) count (a .words - loop .first) (sym (c .before .is-part-unrepeated .ensures) ∙ not-true (c .before .is-part-unrepeated .result) (c .if1 .taken)) in
+    sym (repeated (a .table .now) (a .list .now) (loop .from) (loop .first) (loop .inv .2) count (a .words - loop .first) _ (i .3) (i .1) (w .0) (w .1))
 
 add-first : tie.Need-add-first Inv-loop μ-loop
-add-first c = omega (arith, inside-of (c .before .before .before .before .before .before .before .before .before .before .before .before) .1, c .before .before .before .before .before .before .before .before .before .before .before .before .before .loop-test .taken)
+add-first c = omega (arith, inside-of (c .before .before .before .before .before .before .before .before .before .before .before .before .before .before .before) .1, c .before .before .before .before .before .before .before .before .before .before .before .before .before .before .before .before .loop-test .taken)
 
 loop-less : tie.Need-loop-less Inv-loop μ-loop
-loop-less c = omega (arith, c .before .before .before .before .before .before .before .before .before .before .before .before .least .ensures, c .before .before .before .before .before .before .before .before .before .before .before .before .before .loop-test .taken)
+loop-less c = omega (arith, c .before .before .before .before .before .before .before .before .before .before .before .before .before .before .before .least .ensures, c .before .before .before .before .before .before .before .before .before .before .before .before .before .before .before .before .loop-test .taken)
 
 loop-again : tie.Need-loop-again Inv-loop μ-loop
-loop-again c = let a = c .before .before .before .before .before .before .before .before .before .before .before .before .before .before .before .before .before .before .before .before .before .args in
-    let loop = c .before .before .before .before .before .before .before .before .before .before .before .before .before .before .loop in
-    let i = inside-of (c .before .before .before .before .before .before .before .before .before .before .before .before) in (
-      omega (arith, i .1, c .before .before .before .before .before .before .before .before .before .before .before .before .before .loop-test .taken),
-      c .skip-words .ensures .0,
-      words-before-more (a .table .now) (a .list .now) (loop .from) (loop .first) (c .skip-words .result) (c .before .before .before .before .before .before .before .before .before .before .before .before .least .result) (loop .inv .2) (c .skip-words .ensures .1),
-      unrepeated-more (a .table .now) (a .list .now) (loop .from) (loop .first) (loop .inv .2) (c .before .before .before .before .before .before .before .before .before .before .before .before .least .result) (a .words - loop .first) (i .3) (i .1)
-          (sym (c .before .before .before .before .before .before .before .before .is-part-unrepeated .ensures) ∙ not-false (c .before .before .before .before .before .before .before .before .is-part-unrepeated .result) (c .before .if1 .left)) (loop .inv .3),
+loop-again c = let a = c .before .before .before .before .before .before .before .before .before .before .before .before .before .before .before .before .before .before .before .before .before .before .before .before .args in
+    let loop = c .before .before .before .before .before .before .before .before .before .before .before .before .before .before .before .before .before .loop in
+    let count = c .before .before .before .before .before .before .before .before .before .before .before .before .before .before .before .least .result in
+    let hashed = c .before .before .before .before .before .before .before .before .before .before .before .hash-part .ensures in
+    let i = inside-of (c .before .before .before .before .before .before .before .before .before .before .before .before .before .before .before) in (
+      omega (arith, i .1, c .before .before .before .before .before .before .before .before .before .before .before .before .before .before .before .before .loop-test .taken),
+      hashed .1,
+      words-before-more (a .table .now) (a .list .now) (loop .from) (loop .first) (c .before .before .before .before .before .before .before .before .before .before .before .hash-part .result) count (loop .inv .2) (hashed .2),
+      unrepeated-more (a .table .now) (a .list .now) (loop .from) (loop .first) (loop .inv .2) count (a .words - loop .first) (i .3) (i .1) (sym (c .before .is-part-unrepeated .ensures) ∙ not-false (c .before .is-part-unrepeated .result) (c .if1 .left)) (loop .inv .3),
       search needs,
     )
 
@@ -126,13 +128,13 @@ is-distinct-spec =
     loop-holds
     sub-least
     least-requires
+    hash-part-requires
     sub-is-part-unrepeated
     is-part-unrepeated-requires
     same-length
     same-length-2
     same-length-3
     returns
-    skip-words-requires
     add-first
     loop-less
     loop-again

@@ -37,19 +37,18 @@ inside-of c =
     (omega (arith, c .least .ensures), omega (arith, c .least .ensures, start .pre .1), omega (arith, c .least .ensures, start .pre .1))
 
 -- the words counted and those of the part
-more-of : (c : tie.After-count-in-part Inv-loop μ-loop) → c .before .before .before .before .before .before .loop .found + c .count-in-part .result
-    ≡ countListed (take (c .before .before .before .before .before .before .loop .first + c .before .before .before .before .least .result) (spellings (c .before .before .before .before .before .before .before .before .before .before .before .before .before .before .args .table .now) (c .before .before .before .before .before .before .before .before .before .before .before .before .before .before .args .list .now)))
-    (take (c .before .before .before .before .before .before .before .before .before .before .before .before .before .before .args .size) (wordsAt (c .before .before .before .before .before .before .before .before .before .before .before .before .before .before .args .table .now) (c .before .before .before .before .before .before .before .before .before .before .before .before .before .before .args .text .now) (c .before .before .before .before .before .before .before .before .before .before .before .before .before .before .args .at)))
+more-of : (c : tie.After-count-found Inv-loop μ-loop) → c .before .before .before .before .before .before .before .before .before .before .before .before .before .before .before .before .loop .found + c .count-found .result
+    ≡ countListed (take (c .before .before .before .before .before .before .before .before .before .before .before .before .before .before .before .before .loop .first + c .before .before .before .before .before .before .before .before .before .before .before .before .before .before .least .result) (spellings (c .before .before .before .before .before .before .before .before .before .before .before .before .before .before .before .before .before .before .before .before .before .before .before .before .args .table .now) (c .before .before .before .before .before .before .before .before .before .before .before .before .before .before .before .before .before .before .before .before .before .before .before .before .args .list .now)))
+    (take (c .before .before .before .before .before .before .before .before .before .before .before .before .before .before .before .before .before .before .before .before .before .before .before .before .args .size) (wordsAt (c .before .before .before .before .before .before .before .before .before .before .before .before .before .before .before .before .before .before .before .before .before .before .before .before .args .table .now) (c .before .before .before .before .before .before .before .before .before .before .before .before .before .before .before .before .before .before .before .before .before .before .before .before .args .text .now) (c .before .before .before .before .before .before .before .before .before .before .before .before .before .before .before .before .before .before .before .before .before .before .before .before .args .at)))
 more-of c =
-    let start = c .before .before .before .before .before .before .before .before .before .before .before .before .before .before in
+    let start = c .before .before .before .before .before .before .before .before .before .before .before .before .before .before .before .before .before .before .before .before .before .before .before .before in
     let a = start .args in
-    let loop = c .before .before .before .before .before .before .loop in
+    let loop = c .before .before .before .before .before .before .before .before .before .before .before .before .before .before .before .before .loop in
     omega (
       arith,
       loop .inv .3,
-      c .count-in-part .ensures,
-      count-parts (a .table .now) (a .list .now) (loop .from) (loop .first) (loop .inv .2) (c .before .before .before .before .least .result) (inside-of (c .before .before .before .before) .2) (start .pre .2)
-          (take (a .size) (wordsAt (a .table .now) (a .text .now) (a .at))),
+      c .count-found .ensures,
+      count-parts (a .table .now) (a .list .now) (loop .from) (loop .first) (loop .inv .2) (c .before .before .before .before .before .before .before .before .before .before .before .before .before .before .least .result) (inside-of (c .before .before .before .before .before .before .before .before .before .before .before .before .before .before) .2) (start .pre .2) (take (a .size) (wordsAt (a .table .now) (a .text .now) (a .at))),
     )
 
 word-start-requires : tie.Need-word-start-requires Inv-loop μ-loop
@@ -70,31 +69,33 @@ sub-least c = omega (arith, c .loop-test .taken)
 least-requires : tie.Need-least-requires Inv-loop μ-loop
 least-requires c κs = search needs
 
-count-in-part-requires : tie.Need-count-in-part-requires Inv-loop μ-loop
-count-in-part-requires c κs = let start = c .before .before .before .before .before .before .before .before .before .before .before .before .before in
-    (start .pre .0, c .before .before .before .before .before .loop .inv .1, inside-of (c .before .before .before) .0, inside-of (c .before .before .before) .1, start .pre .3, start .pre .4, c .before .before .before .before .before .loop .inv .4)
+hash-part-requires : tie.Need-hash-part-requires Inv-loop μ-loop
+hash-part-requires c κs = let i = inside-of (c .before .before .before) in
+    (c .before .before .before .before .before .before .before .before .before .before .before .before .before .pre .0, c .before .before .before .before .before .loop .inv .1, i .0, i .1, c .before .before .before .before .before .loop .inv .4)
+
+count-found-requires : tie.Need-count-found-requires Inv-loop μ-loop
+count-found-requires c κs = let start = c .before .before .before .before .before .before .before .before .before .before .before .before .before .before .before .before .before .before .before .before .before .before .before in
+    (start .pre .0, c .before .before .before .before .before .before .before .before .before .hash-part .ensures .0, start .pre .3, start .pre .4)
 
 add-found : tie.Need-add-found Inv-loop μ-loop
-add-found c = let a = c .before .before .before .before .before .before .before .before .before .before .before .before .before .before .before .before .before .before .before .before .args in
+add-found c = let a = c .before .before .before .before .before .before .before .before .before .before .before .before .before .before .before .before .before .before .before .before .before .before .before .before .args in
     let ws = wordsAt (a .table .now) (a .text .now) (a .at) in
-    omega (arith, more-of (c .before .before .before .before .before .before), listed-most (take (c .before .before .before .before .before .before .before .before .before .before .before .before .loop .first + c .before .before .before .before .before .before .before .before .before .before .least .result) (spellings (a .table .now) (a .list .now))) (take (a .size) ws), length-take (a .size) ws)
-
-skip-words-requires : tie.Need-skip-words-requires Inv-loop μ-loop
-skip-words-requires c κs = (c .before .before .before .before .before .before .before .before .before .before .before .before .before .before .before .before .before .before .before .before .pre .0, c .before .before .before .before .before .before .before .before .before .before .before .before .loop .inv .1, inside-of (c .before .before .before .before .before .before .before .before .before .before) .1)
+    omega (arith, more-of c, listed-most (take (c .before .before .before .before .before .before .before .before .before .before .before .before .before .before .before .before .loop .first + c .before .before .before .before .before .before .before .before .before .before .before .before .before .before .least .result) (spellings (a .table .now) (a .list .now))) (take (a .size) ws), length-take (a .size) ws, c .before .before .before .before .before .before .before .before .before .before .before .before .before .before .before .before .before .before .before .before .before .before .before .before .fits .size)
 
 add-first : tie.Need-add-first Inv-loop μ-loop
-add-first c = omega (arith, inside-of (c .before .before .before .before .before .before .before .before .before .before .before) .2, c .before .before .before .before .before .before .before .before .before .before .before .before .before .before .before .before .before .before .before .before .before .pre .1)
+add-first c = omega (arith, inside-of (c .before .before .before .before .before .before .before .before .before .before .before .before .before .before) .2, c .before .before .before .before .before .before .before .before .before .before .before .before .before .before .before .before .before .before .before .before .before .before .before .before .pre .1, c .before .before .before .before .before .before .before .before .before .before .before .before .before .before .before .before .before .before .before .before .before .before .before .before .fits .words)
 
 loop-less : tie.Need-loop-less Inv-loop μ-loop
-loop-less c = omega (arith, c .before .before .before .before .before .before .before .before .before .before .before .least .ensures, c .before .before .before .before .before .before .before .before .before .before .before .before .loop-test .taken)
+loop-less c = omega (arith, c .before .before .before .before .before .before .before .before .before .before .before .before .before .before .least .ensures, c .before .before .before .before .before .before .before .before .before .before .before .before .before .before .before .loop-test .taken)
 
 loop-again : tie.Need-loop-again Inv-loop μ-loop
-loop-again c = let a = c .before .before .before .before .before .before .before .before .before .before .before .before .before .before .before .before .before .before .before .before .before .args in
-    let loop = c .before .before .before .before .before .before .before .before .before .before .before .before .before .loop in (
-      omega (arith, inside-of (c .before .before .before .before .before .before .before .before .before .before .before) .2, c .before .before .before .before .before .before .before .before .before .before .before .before .before .before .before .before .before .before .before .before .before .pre .1),
-      c .skip-words .ensures .0,
-      words-before-more (a .table .now) (a .list .now) (loop .from) (loop .first) (c .skip-words .result) (c .before .before .before .before .before .before .before .before .before .before .before .least .result) (loop .inv .2) (c .skip-words .ensures .1),
-      more-of (c .before .before .before .before .before .before .before),
+loop-again c = let a = c .before .before .before .before .before .before .before .before .before .before .before .before .before .before .before .before .before .before .before .before .before .before .before .before .args in
+    let loop = c .before .before .before .before .before .before .before .before .before .before .before .before .before .before .before .before .loop in
+    let hashed = c .before .before .before .before .before .before .before .before .before .before .hash-part .ensures in (
+      omega (arith, inside-of (c .before .before .before .before .before .before .before .before .before .before .before .before .before .before) .2, c .before .before .before .before .before .before .before .before .before .before .before .before .before .before .before .before .before .before .before .before .before .before .before .before .pre .1),
+      hashed .1,
+      words-before-more (a .table .now) (a .list .now) (loop .from) (loop .first) (c .before .before .before .before .before .before .before .before .before .before .hash-part .result) (c .before .before .before .before .before .before .before .before .before .before .before .before .before .before .least .result) (loop .inv .2) (hashed .2),
+      more-of c,
       search needs,
     )
 
@@ -123,9 +124,9 @@ count-listed-spec =
     loop-holds
     sub-least
     least-requires
-    count-in-part-requires
+    hash-part-requires
+    count-found-requires
     add-found
-    skip-words-requires
     add-first
     loop-less
     loop-again

@@ -51,31 +51,31 @@ sub-least c = omega (arith, c .loop-test .taken)
 least-requires : tie.Need-least-requires Inv-loop μ-loop
 least-requires c κs = search needs
 
-write-part-requires : tie.Need-write-part-requires Inv-loop μ-loop
-write-part-requires c κs = let start = c .before .before .before .before .before .before .before .before .before .before .before .before .before .before .before in
-    let loop = c .before .before .before .before .before .before .loop in
-    let i = inside-of (c .before .before .before .before) in
-    (start .pre .0 .rule, loop .inv .1, i .0, i .1, omega (arith, i .2, start .pre .0 .all, start .pre .0 .most), start .pre .0 .sized, omega (arith, start .pre .1, loop .inv .3 .long), loop .inv .4)
+hash-part-requires : tie.Need-hash-part-requires Inv-loop μ-loop
+hash-part-requires c κs = let i = inside-of (c .before .before .before) in
+    (c .before .before .before .before .before .before .before .before .before .before .before .before .before .before .pre .0 .rule, c .before .before .before .before .before .loop .inv .1, i .0, i .1, c .before .before .before .before .before .loop .inv .4)
 
-skip-words-requires : tie.Need-skip-words-requires Inv-loop μ-loop
-skip-words-requires c κs = (c .before .before .before .before .before .before .before .before .before .before .before .before .before .before .before .before .before .before .before .before .before .before .before .before .pre .0 .rule, c .before .before .before .before .before .before .before .before .before .before .before .before .before .before .before .loop .inv .1, inside-of (c .before .before .before .before .before .before .before .before .before .before .before .before .before) .1)
+write-found-requires : tie.Need-write-found-requires Inv-loop μ-loop
+write-found-requires c κs = let start = c .before .before .before .before .before .before .before .before .before .before .before .before .before .before .before .before .before .before .before .before .before .before .before .before .before in
+    (start .pre .0 .rule, c .before .before .before .before .before .before .before .before .before .before .hash-part .ensures .0, omega (arith, inside-of (c .before .before .before .before .before .before .before .before .before .before .before .before .before .before) .2, start .pre .0 .all, start .pre .0 .most), start .pre .0 .sized, omega (arith, start .pre .1, c .before .before .before .before .before .before .before .before .before .before .before .before .before .before .before .before .loop .inv .3 .long))
 
 add-first : tie.Need-add-first Inv-loop μ-loop
-add-first c = omega (arith, inside-of (c .before .before .before .before .before .before .before .before .before .before .before .before .before .before) .2, c .before .before .before .before .before .before .before .before .before .before .before .before .before .before .before .before .before .before .before .before .before .before .before .before .before .pre .0 .all)
+add-first c = omega (arith, inside-of (c .before .before .before .before .before .before .before .before .before .before .before .before .before .before .before .before .before) .2, c .before .before .before .before .before .before .before .before .before .before .before .before .before .before .before .before .before .before .before .before .before .before .before .before .before .before .before .before .pre .0 .all, c .before .before .before .before .before .before .before .before .before .before .before .before .before .before .before .before .before .before .before .before .before .before .before .before .before .before .before .before .fits .words)
 
 loop-less : tie.Need-loop-less Inv-loop μ-loop
-loop-less c = omega (arith, c .before .before .before .before .before .before .before .before .before .before .before .before .before .before .least .ensures, c .before .before .before .before .before .before .before .before .before .before .before .before .before .before .before .loop-test .taken)
+loop-less c = omega (arith, c .before .before .before .before .before .before .before .before .before .before .before .before .before .before .before .before .before .least .ensures, c .before .before .before .before .before .before .before .before .before .before .before .before .before .before .before .before .before .before .loop-test .taken)
 
 loop-again : tie.Need-loop-again Inv-loop μ-loop
-loop-again c = let start = c .before .before .before .before .before .before .before .before .before .before .before .before .before .before .before .before .before .before .before .before .before .before .before .before .before in
+loop-again c = let start = c .before .before .before .before .before .before .before .before .before .before .before .before .before .before .before .before .before .before .before .before .before .before .before .before .before .before .before .before in
     let a = start .args in
-    let loop = c .before .before .before .before .before .before .before .before .before .before .before .before .before .before .before .before .loop in
-    let i = inside-of (c .before .before .before .before .before .before .before .before .before .before .before .before .before .before) in (
+    let loop = c .before .before .before .before .before .before .before .before .before .before .before .before .before .before .before .before .before .before .before .loop in
+    let count = c .before .before .before .before .before .before .before .before .before .before .before .before .before .before .before .before .before .least .result in
+    let hashed = c .before .before .before .before .before .before .before .before .before .before .before .before .before .hash-part .ensures in
+    let i = inside-of (c .before .before .before .before .before .before .before .before .before .before .before .before .before .before .before .before .before) in (
       omega (arith, i .2, start .pre .0 .all),
-      c .skip-words .ensures .0,
-      words-before-more (a .table .now) (a .list .now) (loop .from) (loop .first) (c .skip-words .result) (c .before .before .before .before .before .before .before .before .before .before .before .before .before .before .least .result) (loop .inv .2) (c .skip-words .ensures .1),
-      ranks-more (a .table .now) (a .list .now) (loop .from) (loop .first) (c .before .before .before .before .before .before .before .before .before .before .before .before .before .before .least .result) (loop .inv .2) (i .2) (start .pre .0 .once) (textWords (a .table .now) (a .text .now)) (a .ranks .now) (loop .ranks) _
-          (loop .inv .3) (c .before .before .before .before .before .before .before .before .before .write-part .ensures),
+      hashed .1,
+      words-before-more (a .table .now) (a .list .now) (loop .from) (loop .first) (c .before .before .before .before .before .before .before .before .before .before .before .before .before .hash-part .result) count (loop .inv .2) (hashed .2),
+      ranks-more (a .table .now) (a .list .now) (loop .from) (loop .first) count (loop .inv .2) (i .2) (start .pre .0 .once) (textWords (a .table .now) (a .text .now)) (a .ranks .now) (loop .ranks) _ (loop .inv .3) (c .before .before .write-found .ensures),
       search needs,
     )
 
@@ -108,8 +108,8 @@ write-ranks-spec =
     loop-holds
     sub-least
     least-requires
-    write-part-requires
-    skip-words-requires
+    hash-part-requires
+    write-found-requires
     add-first
     loop-less
     loop-again
