@@ -2,10 +2,13 @@
 // word as a plain text through the same list (the absent one is refused there), beside a hand-written version, which checks the list by a hash set and
 // then compares word by word, and beside SQLite, which puts the words into a table that has each once and looks the word up. The table is that of the
 // benchmark: a ratio is the engine's time divided by the other's. The answers of two calls are compared before their times are printed. An
-// argument gives the only number of words.
+// argument gives the only number of words, and a second one another archive, made a shared object, whose reading is measured too.
 //
-//   g++ -O3 -std=c++17 bench/finding.cpp target/staticlib/libconcordance.a -lsqlite3 -o target/finding && target/finding
-#include "concordance.h"
+//   g++ -O3 -std=c++17 bench/finding.cpp target/staticlib/libconcordance.a -lsqlite3 -ldl -o target/finding && target/finding
+//   g++ -shared -Wl,--whole-archive before.a -Wl,--no-whole-archive -o before.so && target/finding 240000 ./before.so
+#include "../include/concordance.h"
+#include "archives.hpp"
+#include "letters.h"
 #include "measure.hpp"
 #include "twin.hpp"
 
@@ -49,21 +52,21 @@ static Listed drawn(size_t words) {
 static const uint8_t *bytes(const std::string &of) { return (const uint8_t *)of.data(); }
 
 // The engine's calls: finding a word, and reading it.
-static void find(const Listed &listed, const std::string &word, size_t rank) {
+static void find_word(const Listed &listed, const std::string &word, size_t rank) {
     const auto answer = concordance_find_word(bytes(listed.list), listed.list.size(), bytes(word), word.size());
     must(answer.refusal == 0 && answer.value == rank, "find_word");
 }
 
-static void read(const Listed &listed, const std::string &word, size_t rank) {
+static void read_by(decltype(&concordance_read_text) entry, const Listed &listed, const std::string &word, size_t rank) {
     uint32_t read = 0;
-    const auto answer = concordance_read_text(bytes(listed.list), listed.list.size(), bytes(word), word.size(), &read, 1);
+    const auto answer = entry(bytes(listed.list), listed.list.size(), bytes(word), word.size(), &read, 1);
     must(rank == listed.words ? answer.refusal == CONCORDANCE_REFUSED_UNLISTED : answer.refusal == 0 && read == rank, "read_text");
 }
 
 // By hand: each word of the list is tested and put into a hash set, then the folded word is compared with one after the other.
 static size_t find_by_hand(const std::string &list, const std::string &word) {
     uint8_t letter[256];
-    twin::fill_letters(letter);
+    fill_letters(letter);
     std::unordered_set<std::string_view> distinct;
     size_t words = 0;
     for (size_t at = 0; at < list.size();) {
@@ -113,14 +116,21 @@ static size_t find_by_sqlite(const std::string &list, size_t words, const std::s
     return found;
 }
 
+// The reading of another archive; null where none is given.
+static decltype(&concordance_read_text) read_before = nullptr;
+
 static void measure(size_t words) {
     const Listed listed = drawn(words);
     const char *names[] = {"find_word, in the middle", "find_word, the last", "find_word, absent"};
     for (size_t i = 0; i < listed.sought.size(); i++) {
         const auto &[word, rank] = listed.sought[i];
-        const auto ours = [&, &word = word, &rank = rank] { find(listed, word, rank); };
-        const Both reading = in_turn(runs, ours, [&, &word = word, &rank = rank] { read(listed, word, rank); });
-        table.add(words, names[i], reading.one, "read_text of the word", reading.other);
+        const auto ours = [&, &word = word, &rank = rank] { find_word(listed, word, rank); };
+        const auto beside_reading = [&, &word = word, &rank = rank](decltype(&concordance_read_text) entry, const char *name) {
+            const Both reading = in_turn(runs, ours, [&] { read_by(entry, listed, word, rank); });
+            table.add(words, names[i], reading.one, name, reading.other);
+        };
+        beside_reading(concordance_read_text, "read_text of the word");
+        if (read_before) beside_reading(read_before, "read_text of the other archive");
         const Both hand = in_turn(runs, ours, [&, &word = word, &rank = rank] { must(find_by_hand(listed.list, word) == rank, "by hand"); });
         table.add(words, names[i], hand.one, "by hand", hand.other);
         const Both peer = in_turn(3, ours, [&, &word = word, &rank = rank] { must(find_by_sqlite(listed.list, words, word) == rank, "SQLite"); });
@@ -130,6 +140,7 @@ static void measure(size_t words) {
 
 int main(int count, char **arguments) {
     std::printf("| words | what | engine, ms | beside | ms | ratio |\n|---|---|---|---|---|---|\n");
+    if (count > 2) find(read_before, dlopen(arguments[2], RTLD_NOW | RTLD_LOCAL), "concordance_read_text");
     if (count > 1) {
         measure(std::stoul(arguments[1]));
         return 0;

@@ -1,6 +1,6 @@
 -- The rank of a spelled word in a list whose words are written as they must be, and the answer of the call, case by case. Assumes nothing.
 use Prim.Native.Nat.{ℕ, suc, _≤_, _<_}
-use mathlib.Core.Path.{_≡_, refl, sym, ap, _∙_}
+use mathlib.Core.Path.{_≡_, sym, ap, _∙_}
 use mathlib.Core.Bool.{Bool, true, false, cond, not, false≢true}
 use mathlib.Core.Logic.{_⊎_, inl, inr}
 use mathlib.Core.List.{List, [], _∷_, map}
@@ -8,12 +8,13 @@ use native.Mathlib.Omega.{arith}
 use borrow.Author.Tests.{ltb-true, lt-ltb}
 use lib.Dec.{ltb}
 use lib.ListN.{length, getD, length-map}
+use lib.Seq.{take-all}
 use Rattle.base.specs.Answers.{accepted, refused, _⇒_}
 use Rattle.base.specs.Lists.{All, allPass, firstWhere, same}
 use Rattle.base.specs.Refusals.{refusalVocabulary, refusalWordList}
 use Rattle.base.specs.Texts.{outside}
 use Rattle.base.proofs.Answers.{first-here, first-later, answers}
-use Rattle.base.proofs.Tests.{and-left, and-right, below-or-not, same-or-not}
+use Rattle.base.proofs.Tests.{and-left, and-right, below-or-not}
 use Rattle.base.proofs.Lists.{all-at, all-of-pass, getD-map}
 use Rattle.dense.specs.Code.{maxVocabulary, vocabularyCase}
 use Rattle.lexicon.specs.Letters.{letterIn, isTable}
@@ -23,7 +24,7 @@ use Rattle.lexicon.proofs.Members.{not-in}
 use Rattle.lexicon.proofs.WordLists.{closed-size, spelling-kept, spelling-letter}
 use Rattle.list_rules.proofs.Written.{list-words}
 use Rattle.scanning.specs.Scans.{run, runAt}
-use Rattle.scanning.proofs.Scans.{run-none, run-more}
+use Rattle.plain_text.proofs.Theorem.{run-folded, run-behind}
 use Rattle.finding.specs.Finding.{foldedBy, wordRank, findWordAnswer}
 
 -- the first that passes a test stands among the words or at their end
@@ -58,36 +59,14 @@ module _ (table : List ℕ) where
   folded-at spelling i h = getD-map (letterIn table) spelling i 0 0 h
 
   -- a spelling that is a run from its front to its end is folded as a run
-  run-whole : (xs : List ℕ) → length xs ≤ length (run table xs) → run table xs ≡ map (letterIn table) xs
-  run-whole [] h = refl
-  run-whole (x ∷ xs) h = go (same-or-not (letterIn table x) 0) (run-whole xs)
-    where
-      go : (letterIn table x ≡ 0) ⊎ (letterIn table x ≡ 0 → ⊥) → (length xs ≤ length (run table xs) → run table xs ≡ map (letterIn table) xs)
-          → run table (x ∷ xs) ≡ letterIn table x ∷ map (letterIn table) xs
-      go (inl e) rest = absurd (omega (arith, h, ap length (run-none table x xs e)))
-      go (inr n) rest =
-          let m = run-more table x xs n in
-          m ∙ ap (λ (ys : List ℕ). letterIn table x ∷ ys) (rest (omega (arith, h, ap length m)))
-
   pub whole-run : (spelling : List ℕ) → length spelling ≤ length (runAt table spelling 0) → runAt table spelling 0 ≡ foldedBy table spelling
   unfolding runAt foldedBy
-  whole-run spelling h = run-whole spelling h
+  whole-run spelling h = run-folded table spelling ∙ ap (map (letterIn table)) (take-all (length (run table spelling)) spelling h)
 
   -- one that is longer has a separator where the run ends
-  run-cut : (xs : List ℕ) → length (run table xs) < length xs → letterIn table (getD xs (length (run table xs)) 0) ≡ 0
-  run-cut [] h = absurd (omega arith)
-  run-cut (x ∷ xs) h = go (same-or-not (letterIn table x) 0) (run-cut xs)
-    where
-      go : (letterIn table x ≡ 0) ⊎ (letterIn table x ≡ 0 → ⊥) → (length (run table xs) < length xs → letterIn table (getD xs (length (run table xs)) 0) ≡ 0)
-          → letterIn table (getD (x ∷ xs) (length (run table (x ∷ xs))) 0) ≡ 0
-      go (inl e) rest = ap (λ (n : ℕ). letterIn table (getD (x ∷ xs) n 0)) (ap length (run-none table x xs e)) ∙ e
-      go (inr n) rest =
-          let m = ap length (run-more table x xs n) in
-          ap (λ (k : ℕ). letterIn table (getD (x ∷ xs) k 0)) m ∙ rest (omega (arith, h, m))
-
   pub cut-run : (spelling : List ℕ) → length (runAt table spelling 0) < length spelling → letterIn table (getD spelling (length (runAt table spelling 0)) 0) ≡ 0
   unfolding runAt
-  cut-run spelling h = run-cut spelling h
+  cut-run spelling h = run-behind table spelling h
 
 module _ (table list : List ℕ) (rule : isTable table ≡ true) (written : isWritten table list ≡ true) where
   pub sized : length (listWords list) ≡ listSize list

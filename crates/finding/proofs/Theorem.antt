@@ -1,5 +1,5 @@
 -- The rank of a spelled word is where it stands in the list, V where it stands nowhere, and what reading gives it. Assumes nothing.
-use Prim.Native.Nat.{ℕ, _≤_, _<_}
+use Prim.Native.Nat.{ℕ, _<_}
 use mathlib.Core.Path.{_≡_, refl, sym, ap, ap₂, _∙_}
 use mathlib.Core.Bool.{true}
 use mathlib.Core.List.{List, [], _∷_, map}
@@ -40,9 +40,6 @@ module _ (table list : List ℕ) (rule : isTable table ≡ true) (listed : isLis
   unfolding isList
   once = and-right (isWritten table list) (distinct (listWords list)) listed
 
-  long : length (listWords list) ≡ listSize list
-  long = sized table list rule written
-
   ranked : (spelling : List ℕ) → listRank (listWords list) (foldedBy table spelling) ≡ wordRank table list spelling
   unfolding wordRank
   ranked spelling = refl
@@ -51,7 +48,7 @@ module _ (table list : List ℕ) (rule : isTable table ≡ true) (listed : isLis
   unfolding wordRank isIn
   stands spelling h =
       sym (list-rank-stands (listWords list) (foldedBy table spelling)
-      (lt-ltb (listRank (listWords list) (foldedBy table spelling)) (length (listWords list)) (omega (arith, long))))
+      (lt-ltb (listRank (listWords list) (foldedBy table spelling)) (length (listWords list)) (omega (arith, sized table list rule written))))
 
   as-read : (text : List ℕ) (k : ℕ) → k < length (textWords table text)
       → wordRank table list (spelledIn text (getD (textWords table text) k (word 0 []))) ≡ getD (textRanks table list text) k 0
@@ -72,19 +69,19 @@ module _ (table list : List ℕ) (rule : isTable table ≡ true) (listed : isLis
   finding-exact : FindingExact table list
   finding-exact = record {
     found = stands;
-    most = λ spelling. omega (arith, rank-most (listWords list) (foldedBy table spelling), ranked spelling, long);
+    most = λ spelling. omega (arith, rank-most (listWords list) (foldedBy table spelling), ranked spelling, sized table list rule written);
     lacking = λ spelling j e h q.
         omega (
           arith,
-          list-rank-below (listWords list) (foldedBy table spelling) (in-at (listWords list) (foldedBy table spelling) j (omega (arith, long)) (sym q)),
+          list-rank-below (listWords list) (foldedBy table spelling) (in-at (listWords list) (foldedBy table spelling) j (omega (arith, sized table list rule written)) (sym q)),
           ranked spelling,
-          long,
+          sized table list rule written,
         );
     empty = lacks-empty table list rule written;
     separator = lacks-separator table list rule written;
     own = λ i h.
         sym (ranked (getD (listWords list) i []))
-        ∙ list-rank-at (listWords list) (foldedBy table (getD (listWords list) i [])) i once (omega (arith, long)) (kept-all table (getD (listWords list) i []) (letters-of table list rule written i h));
+        ∙ list-rank-at (listWords list) (foldedBy table (getD (listWords list) i [])) i once (omega (arith, sized table list rule written)) (kept-all table (getD (listWords list) i []) (letters-of table list rule written i h));
     asRead = as-read;
     oneWord = one-word;
   }

@@ -32,7 +32,7 @@ use Rattle.scanning.specs.Scans.{gap, run, wordsAt, runAt, startFrom, WordBegin
 -- ---- runs and gaps in front of a list
 
 module _ (table : List ℕ) where
-  run-folded : (xs : List ℕ) → run table xs ≡ map (letterIn table) (take (length (run table xs)) xs)
+  pub run-folded : (xs : List ℕ) → run table xs ≡ map (letterIn table) (take (length (run table xs)) xs)
   run-folded [] = refl
   run-folded (x ∷ xs) = go (same-or-not (letterIn table x) 0) (run-folded xs)
     where
@@ -50,7 +50,7 @@ module _ (table : List ℕ) where
       go zero h (inr n) ih = n
       go (suc i) h (inr n) ih = ih i (omega (arith, ap length (run-more table x xs n)))
 
-  run-behind : (xs : List ℕ) → length (run table xs) < length xs → letterIn table (getD xs (length (run table xs)) 0) ≡ 0
+  pub run-behind : (xs : List ℕ) → length (run table xs) < length xs → letterIn table (getD xs (length (run table xs)) 0) ≡ 0
   run-behind [] h = absurd (omega arith)
   run-behind (x ∷ xs) h = go (same-or-not (letterIn table x) 0) (run-behind xs)
     where

@@ -1,7 +1,6 @@
 -- Questions about an absent word, and about ranks above V. Assumes nothing.
 use Prim.Native.Nat.{ℕ, _+_, _≤_, _<_}
 use mathlib.Core.Path.{_≡_, refl, sym, ap, _∙_}
-use mathlib.Core.Bool.{true}
 use mathlib.Core.List.{List}
 use native.Mathlib.Omega.{arith}
 use lib.IntN.{ℤ}
@@ -9,12 +8,8 @@ use lib.ListN.{length, getD}
 use Rattle.base.specs.Refusals.{refusalAskedRank}
 use Rattle.base.specs.Answers.{accepted, refused}
 use Rattle.base.specs.Texts.{maxPhrase}
-use Rattle.dense.specs.Code.{Closing}
-use Rattle.index.specs.declared.Shape.{Shape}
-use Rattle.index.specs.Arrays.{Arrays, textIn}
-use Rattle.index.specs.Entries.{checkAnswer}
+use Rattle.index.specs.Arrays.{textIn}
 use Rattle.index.proofs.Exact.{index-exact}
-use Rattle.documents.specs.Documents.{areStarts}
 use Rattle.documents.specs.Absent.{AbsentWord}
 use Rattle.documents.proofs.Absent.{absent-words}
 use Rattle.questions.specs.declared.Question.{Question}

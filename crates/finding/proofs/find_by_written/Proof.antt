@@ -1,13 +1,12 @@
 -- `finding::find_by_written` meets its contract: a word twice, then the rank. Assumes nothing.
-use Prim.Native.Nat.{ℕ}
 use mathlib.Core.Path.{_≡_, refl, sym, ap, _∙_}
-use mathlib.Core.Bool.{Bool, true, false}
+use mathlib.Core.Bool.{true, false}
 use borrow.Author.Needs.{needs}
 use borrow.Author.Tests.{not-true, not-false}
 use Rattle.base.specs.Answers.{accepted}
 use Rattle.base.specs.Texts.{outside}
 use Rattle.dense.specs.Code.{maxVocabulary}
-use Rattle.lexicon.specs.Lexicon.{listSize, isList}
+use Rattle.lexicon.specs.Lexicon.{listSize}
 use Rattle.plain_text.proofs.Calls.{list-by-tests, list-sized}
 use Rattle.finding.proofs.Ranks.{find-list, find-rank}
 use Rattle.finding.proofs.find_by_written.Statement.{statement}

@@ -1,7 +1,7 @@
 -- `finding::first_alike` meets its contract. The loop's invariant: no word passed is spelled alike. Assumes nothing.
 use Prim.Native.Nat.{ℕ, _+_, _-_, _≤_, _<_}
 use mathlib.Core.Path.{_≡_, refl, sym, ap, _∙_}
-use mathlib.Core.Bool.{true, false}
+use mathlib.Core.Bool.{false}
 use mathlib.Core.List.{List, []}
 use native.Mathlib.Omega.{arith}
 use borrow.Author.Needs.{needs}
@@ -10,11 +10,11 @@ use lib.ListN.{length, drop, getD}
 use Rattle.base.specs.Lists.{same}
 use Rattle.base.proofs.Lists.{first-where-at, first-where-none}
 use Rattle.lexicon.specs.Lexicon.{listRank}
-use Rattle.lexicon.specs.Reading.{TextWord, spellings}
+use Rattle.lexicon.specs.Reading.{spellings}
 use Rattle.hashing.proofs.HashTables.{spelled-here}
 use Rattle.hashing.proofs.Parts.{WordsBefore, spelled-in, words-left, words-before-first, words-before-more}
 use Rattle.scanning.proofs.Scans.{Next, next, begins, some-left}
-use Rattle.scanning.specs.Scans.{wordsAt, runAt, startFrom, WordBegins}
+use Rattle.scanning.specs.Scans.{runAt, startFrom, WordBegins}
 use Rattle.finding.proofs.first_alike.Statement.{statement}
 use Rattle.finding.proofs.first_alike.Tie as tie
 

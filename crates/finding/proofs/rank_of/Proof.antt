@@ -1,11 +1,7 @@
 -- `finding::rank_of` meets its contract: a spelling with a separator has V, another the rank of its run. Assumes nothing.
-use Prim.Native.Nat.{_+_}
-use mathlib.Core.Path.{_≡_, sym, _∙_}
+use mathlib.Core.Path.{sym, _∙_}
 use native.Mathlib.Omega.{arith}
-use borrow.Author.Needs.{needs}
-use lib.ListN.{length}
 use Rattle.plain_text.proofs.Calls.{list-sized}
-use Rattle.scanning.specs.Scans.{runAt}
 use Rattle.finding.proofs.Ranks.{rank-of-run, rank-of-cut}
 use Rattle.finding.proofs.rank_of.Statement.{statement}
 use Rattle.finding.proofs.rank_of.Tie as tie

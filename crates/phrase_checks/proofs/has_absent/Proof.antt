@@ -4,7 +4,7 @@ use mathlib.Core.Path.{_≡_, sym, ap, ap₂, _∙_}
 use native.Mathlib.Omega.{arith}
 use borrow.Author.Needs.{needs}
 use lib.Dec.{eqb, ltb}
-use lib.ListN.{length, take, drop}
+use lib.ListN.{take, drop}
 use Rattle.base.specs.Lists.{firstWhere}
 use Rattle.questions.specs.Answering.{hasAbsent, phraseIn}
 use Rattle.questions.proofs.Answered.{part-length}
