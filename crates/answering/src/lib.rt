@@ -105,7 +105,7 @@ fn answer_place(
     if shape.vocabulary < rank {
         return Answer::refused(refusal::ASKED_RANK);
     }
-    if rank == shape.vocabulary {
+    if shape.vocabulary == rank {
         return Answer::refused(refusal::PLACE);
     }
     if p < 1 {

@@ -25,10 +25,10 @@ pub fn read_text_with(table: &[u8], list: &[u8], text: &[u8], ranks: &mut [u32])
 pub fn find_word_with(table: &[u8], list: &[u8], spelling: &[u8]) -> Answer
     ensures { λ r. ⌜ r ≡ findWordWithAnswer (now (table .entry)) (now (list .entry)) (now (spelling .entry)) ⌝ }
 {
-    if !lexicon::is_table(table) {
-        return Answer::refused(refusal::TABLE);
+    if lexicon::is_table(table) {
+        return finding::find_word_by(table, list, spelling);
     }
-    finding::find_word_by(table, list, spelling)
+    Answer::refused(refusal::TABLE)
 }
 
 // Makes a word list of a plain text, whose words are folded by the lent table: the list to the front

@@ -32,7 +32,7 @@ returns-2 c =
     let v = st .args .shape .vocabulary in
     let t = textIn (st .args .s) (arrays (st .args .lengths .now) (st .args .bytes .now) (st .args .superblocks .now) (st .args .blocks .now)) in
     c .refused2 .ensures
-    ∙ sym (place-never v t (st .args .rank) (st .args .p) (c .before .before .before .if1 .left) (ap (frequency t) (c .before .if2 .taken) ∙ absent-words v [] t (ranks-below (st .pre .checked)) .never))
+    ∙ sym (place-never v t (st .args .rank) (st .args .p) (c .before .before .before .if1 .left) (ap (frequency t) (sym (c .before .if2 .taken)) ∙ absent-words v [] t (ranks-below (st .pre .checked)) .never))
 
 refused-requires-3 : tie.Need-refused-requires-3
 refused-requires-3 c κs = search needs
