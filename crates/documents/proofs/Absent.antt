@@ -1,7 +1,7 @@
 -- An absent word stands nowhere. Assumes nothing.
 use Prim.Native.Nat.{ℕ, suc, _+_, _<_}
 use mathlib.Core.Path.{_≡_, refl, ap, _∙_}
-use mathlib.Core.Bool.{Bool, false}
+use mathlib.Core.Bool.{false}
 use mathlib.Core.List.{List, [], map}
 use native.Mathlib.Omega.{arith}
 use borrow.Author.Tests.{ltb-true, eqb-true}
@@ -12,18 +12,12 @@ use Rattle.base.specs.Lists.{Below, filterBy, rangeFrom, countOf}
 use Rattle.base.proofs.Tests.{and-never, and-left, and-right, false-of}
 use Rattle.base.proofs.Lists.{all-at, all-imp}
 use Rattle.base.proofs.Counts.{count-none, count-take-whole}
-use Rattle.base.proofs.Filters.{filter-range-end}
+use Rattle.base.proofs.Ranges.{filter-range-none}
 use Rattle.phrases.specs.Neighbours.{standsAt, neighbourAt}
 use Rattle.phrases.proofs.Standing.{stands-inside, stands-word}
 use Rattle.documents.specs.Documents.{documentOf, sameDocument, standsIn, placesIn, neighbourIn, neighboursIn, countInDocument, countsByDocument}
 use Rattle.documents.specs.Absent.{AbsentWord, AbsentWords}
 use Rattle.documents.proofs.Inside.{stands-in}
-
--- where a test holds nowhere, no place passes it
-none-pass : (test : ℕ → Bool) (n : ℕ) → ((q : ℕ) → test q ≡ false) → filterBy test (rangeFrom 0 n) ≡ []
-none-pass test n none =
-    let z : n ≡ 0 + n = omega arith in
-    ap (λ (m : ℕ). filterBy test (rangeFrom 0 m)) z ∙ filter-range-end test 0 0 n (λ q l. none q)
 
 module _ (vocab : ℕ) (starts t : List ℕ) (below : Below vocab t) where
   -- no place of the text has the rank V
@@ -58,7 +52,7 @@ module _ (vocab : ℕ) (starts t : List ℕ) (below : Below vocab t) where
 
     no-places : placesIn starts t phrase ≡ []
     unfolding placesIn
-    no-places = none-pass (standsIn starts t phrase) (suc (length t)) stands-nowhere
+    no-places = filter-range-none (standsIn starts t phrase) 0 (suc (length t)) (λ q l u. stands-nowhere q)
 
     no-count : (k : ℕ) → countInDocument starts t phrase k ≡ 0
     unfolding countInDocument
@@ -73,8 +67,8 @@ module _ (vocab : ℕ) (starts t : List ℕ) (below : Below vocab t) where
   absent-word = record {
     below = λ p. omega (arith, count-take-whole vocab p t, never-counted);
     never = never-counted;
-    first = λ v d. ap length (none-pass (neighbourIn starts t vocab v d) (length t) (first-none v d));
-    second = λ w d. ap length (none-pass (neighbourIn starts t w vocab d) (length t) (second-none w d));
+    first = λ v d. ap length (filter-range-none (neighbourIn starts t vocab v d) 0 (length t) (λ q l u. first-none v d q));
+    second = λ w d. ap length (filter-range-none (neighbourIn starts t w vocab d) 0 (length t) (λ q l u. second-none w d q));
     stands = stands-nowhere;
     nowhere = no-places;
     uncounted = no-counts;

@@ -36,18 +36,18 @@ first-where-bound test (w ∷ ws) = go (test w) (first-where-bound test ws)
     go true h = omega arith
     go false h = omega arith
 
-pub rank-most : (ws : List (List ℕ)) (w : List ℕ) → listRank ws w ≤ length ws
+pub list-rank-most : (ws : List (List ℕ)) (w : List ℕ) → listRank ws w ≤ length ws
 unfolding listRank
-rank-most ws w = first-where-bound (same w) ws
+list-rank-most ws w = first-where-bound (same w) ws
 
 -- a word that is not among words has their number
-rank-none : (ws : List (List ℕ)) (w : List ℕ) → isIn ws w ≡ false → listRank ws w ≡ length ws
+list-rank-none : (ws : List (List ℕ)) (w : List ℕ) → isIn ws w ≡ false → listRank ws w ≡ length ws
 unfolding isIn
-rank-none ws w e = go (below-or-not (listRank ws w) (length ws))
+list-rank-none ws w e = go (below-or-not (listRank ws w) (length ws))
   where
     go : (listRank ws w < length ws) ⊎ (length ws ≤ listRank ws w) → listRank ws w ≡ length ws
     go (inl l) = absurd (false≢true (sym e ∙ lt-ltb (listRank ws w) (length ws) l))
-    go (inr l) = omega (arith, rank-most ws w)
+    go (inr l) = omega (arith, list-rank-most ws w)
 
 module _ (table : List ℕ) where
   pub folded-length : (spelling : List ℕ) → length (foldedBy table spelling) ≡ length spelling
@@ -68,7 +68,7 @@ module _ (table : List ℕ) where
   unfolding runAt
   cut-run spelling h = run-behind table spelling h
 
-module _ (table list : List ℕ) (rule : isTable table ≡ true) (written : isWritten table list ≡ true) where
+module _ (table list : List ℕ) (written : isWritten table list ≡ true) where
   pub sized : length (listWords list) ≡ listSize list
   unfolding isWritten
   sized = closed-size list (and-left (isClosed list) (allPass (isSpelled table) (listWords list)) written)
@@ -94,7 +94,7 @@ module _ (table list : List ℕ) (rule : isTable table ≡ true) (written : isWr
   lacks : (spelling : List ℕ) → ((j : ℕ) → j < listSize list → foldedBy table spelling ≡ getD (listWords list) j [] → ⊥) → wordRank table list spelling ≡ listSize list
   unfolding wordRank
   lacks spelling n =
-      rank-none (listWords list) (foldedBy table spelling) (not-in (listWords list) (foldedBy table spelling) (λ j h e. n j (omega (arith, sized)) e)) ∙ sized
+      list-rank-none (listWords list) (foldedBy table spelling) (not-in (listWords list) (foldedBy table spelling) (λ j h e. n j (omega (arith, sized)) e)) ∙ sized
 
   pub lacks-empty : wordRank table list [] ≡ listSize list
   lacks-empty = lacks [] (λ j h e. omega (arith, some j h, ap length e, folded-length table []))
@@ -109,9 +109,9 @@ module _ (table list : List ℕ) (rule : isTable table ≡ true) (written : isWr
       spelling-letter table (getD w i 0) good (spelling-kept table (getD w i 0) good ∙ at))
 
   -- a spelling without a separator has the rank of its run
-  pub rank-of-run : (spelling : List ℕ) → length spelling ≤ length (runAt table spelling 0) → listRank (spellings table list) (runAt table spelling 0) ≡ wordRank table list spelling
+  pub rank-of-run : isTable table ≡ true → (spelling : List ℕ) → length spelling ≤ length (runAt table spelling 0) → listRank (spellings table list) (runAt table spelling 0) ≡ wordRank table list spelling
   unfolding wordRank
-  rank-of-run spelling h =
+  rank-of-run rule spelling h =
       ap (λ (ws : List (List ℕ)). listRank ws (runAt table spelling 0)) (list-words table rule list written) ∙ ap (listRank (listWords list)) (whole-run table spelling h)
 
   -- and one with a separator has V

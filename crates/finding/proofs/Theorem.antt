@@ -10,7 +10,7 @@ use lib.Seq.{take-length}
 use Rattle.base.specs.Lists.{All}
 use Rattle.base.proofs.Tests.{and-left, and-right}
 use Rattle.base.proofs.Lists.{all-at, getD-map}
-use Rattle.lexicon.specs.Letters.{letterIn, isTable}
+use Rattle.lexicon.specs.Letters.{letterIn}
 use Rattle.lexicon.specs.Lexicon.{listSize, listWords, listRank, isIn, distinct, isSpelling, isWritten, isList}
 use Rattle.lexicon.specs.Laws.{IsRun}
 use Rattle.lexicon.specs.Reading.{TextWord, word, textWords, textRanks}
@@ -18,7 +18,7 @@ use Rattle.lexicon.proofs.Members.{in-at, list-rank-below, list-rank-stands, li
 use Rattle.lexicon.proofs.WordLists.{spelling-kept}
 use Rattle.plain_text.proofs.Theorem.{words-exact}
 use Rattle.finding.specs.Finding.{foldedBy, wordRank, spelledIn, FindingExact, FindingOfTables}
-use Rattle.finding.proofs.Ranks.{rank-most, sized, letters-of, lacks-empty, lacks-separator}
+use Rattle.finding.proofs.Ranks.{list-rank-most, sized, letters-of, lacks-empty, lacks-separator}
 
 -- bytes that the table keeps are folded to themselves
 kept-all : (table w : List ℕ) → All (λ (x : ℕ). isSpelling table x ≡ true) w → foldedBy table w ≡ w
@@ -31,7 +31,7 @@ read-spelling : (table text : List ℕ) (w : TextWord) → IsRun table text w �
 unfolding foldedBy
 read-spelling table text w run = sym (run .folded)
 
-module _ (table list : List ℕ) (rule : isTable table ≡ true) (listed : isList table list ≡ true) where
+module _ (table list : List ℕ) (listed : isList table list ≡ true) where
   written : isWritten table list ≡ true
   unfolding isList
   written = and-left (isWritten table list) (distinct (listWords list)) listed
@@ -48,7 +48,7 @@ module _ (table list : List ℕ) (rule : isTable table ≡ true) (listed : isLis
   unfolding wordRank isIn
   stands spelling h =
       sym (list-rank-stands (listWords list) (foldedBy table spelling)
-      (lt-ltb (listRank (listWords list) (foldedBy table spelling)) (length (listWords list)) (omega (arith, sized table list rule written))))
+      (lt-ltb (listRank (listWords list) (foldedBy table spelling)) (length (listWords list)) (omega (arith, sized table list written))))
 
   as-read : (text : List ℕ) (k : ℕ) → k < length (textWords table text)
       → wordRank table list (spelledIn text (getD (textWords table text) k (word 0 []))) ≡ getD (textRanks table list text) k 0
@@ -69,22 +69,22 @@ module _ (table list : List ℕ) (rule : isTable table ≡ true) (listed : isLis
   finding-exact : FindingExact table list
   finding-exact = record {
     found = stands;
-    most = λ spelling. omega (arith, rank-most (listWords list) (foldedBy table spelling), ranked spelling, sized table list rule written);
+    most = λ spelling. omega (arith, list-rank-most (listWords list) (foldedBy table spelling), ranked spelling, sized table list written);
     lacking = λ spelling j e h q.
         omega (
           arith,
-          list-rank-below (listWords list) (foldedBy table spelling) (in-at (listWords list) (foldedBy table spelling) j (omega (arith, sized table list rule written)) (sym q)),
+          list-rank-below (listWords list) (foldedBy table spelling) (in-at (listWords list) (foldedBy table spelling) j (omega (arith, sized table list written)) (sym q)),
           ranked spelling,
-          sized table list rule written,
+          sized table list written,
         );
-    empty = lacks-empty table list rule written;
-    separator = lacks-separator table list rule written;
+    empty = lacks-empty table list written;
+    separator = lacks-separator table list written;
     own = λ i h.
         sym (ranked (getD (listWords list) i []))
-        ∙ list-rank-at (listWords list) (foldedBy table (getD (listWords list) i [])) i once (omega (arith, sized table list rule written)) (kept-all table (getD (listWords list) i []) (letters-of table list rule written i h));
+        ∙ list-rank-at (listWords list) (foldedBy table (getD (listWords list) i [])) i once (omega (arith, sized table list written)) (kept-all table (getD (listWords list) i []) (letters-of table list written i h));
     asRead = as-read;
     oneWord = one-word;
   }
 
 pub finding-of-tables : FindingOfTables
-finding-of-tables table list rule listed = finding-exact table list rule listed
+finding-of-tables table list listed = finding-exact table list listed

@@ -8,7 +8,7 @@ use Rattle.base.specs.declared.Answer.{Answer}
 use Rattle.base.specs.Refusals.{refusalWordList}
 use Rattle.base.specs.Answers.{accepted, refused, _⇒_, firstOf}
 use Rattle.dense.specs.Code.{vocabularyCase}
-use Rattle.lexicon.specs.Letters.{letterIn, isTable}
+use Rattle.lexicon.specs.Letters.{letterIn}
 use Rattle.lexicon.specs.Lexicon.{listSize, listWords, listRank, isList}
 use Rattle.lexicon.specs.Reading.{TextWord, word, textWords, textRanks}
 
@@ -60,6 +60,6 @@ pub record FindingExact (table list : List ℕ) : Type 0 where
       (spelling folded : List ℕ) → textWords table spelling ≡ word 0 folded ∷ [] → length folded ≡ length spelling →
       textRanks table list spelling ≡ wordRank table list spelling ∷ []
 
--- Statement: with every table that keeps the rules, of every list that keeps its rules.
+-- Statement: with every table, of every list that keeps the rules by it.
 abbrev pub FindingOfTables : Type 0
-FindingOfTables = (table list : List ℕ) → isTable table ≡ true → isList table list ≡ true → FindingExact table list
+FindingOfTables = (table list : List ℕ) → isList table list ≡ true → FindingExact table list

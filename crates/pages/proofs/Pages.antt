@@ -1,5 +1,5 @@
 -- Laws of one page: of what its state has still to write, a page writes the first and leaves the rest. Assumes nothing.
-use Prim.Native.Nat.{ℕ, suc, _+_, _-_, _≤_, _<_}
+use Prim.Native.Nat.{ℕ, suc, _-_, _≤_, _<_}
 use mathlib.Core.Path.{_≡_, refl, sym, ap, _∙_}
 use mathlib.Core.Bool.{Bool, true, false, cond, not}
 use mathlib.Core.List.{List, [], _∷_, _++_}
@@ -8,9 +8,7 @@ use borrow.Author.Tests.{ltb-true, ltb-false, lt-ltb, le-ltb, not-true}
 use lib.Dec.{ltb}
 use lib.ListN.{length, take, drop, length-append, length-drop, drop-of-length-le}
 use lib.Seq.{take-all, take-nil, drop-nil, take-at}
-use Rattle.base.specs.Lists.{filterBy, rangeFrom}
-use Rattle.base.proofs.Ranges.{length-filter-range}
-use Rattle.base.proofs.Filters.{filter-range-end}
+use Rattle.base.proofs.Ranges.{length-filter-range, filter-range-none}
 use Rattle.pages.specs.Hits.{hitsFrom, lastOr}
 use Rattle.pages.specs.Pages.{HitPage, pending, moreAfter, pageOver}
 use Rattle.pages.proofs.Hits.{hits-rest}
@@ -99,10 +97,7 @@ page-over-finished P end lines next = rw (le-ltb lines 0 (omega arith), take-nil
 
 -- where there is no hit the page over a state that is not finished ends the listing
 pub page-nowhere : (P : ℕ → Bool) → ((q : ℕ) → P q ≡ false) → (end lines next : ℕ) → pageOver P end lines next false ≡ endPage end []
-page-nowhere P none end lines next = page-last P end lines next [] (ap (λ (n : ℕ). filterBy P (rangeFrom next n)) z ∙ filter-range-end P next 0 (suc end - next) (λ q l. none q)) (omega arith)
-  where
-    z : suc end - next ≡ 0 + (suc end - next)
-    z = omega arith
+page-nowhere P none end lines next = page-last P end lines next [] (filter-range-none P next (suc end - next) (λ q l u. none q)) (omega arith)
 
 -- and over whatever state nothing is written
 pub page-none : (P : ℕ → Bool) → ((q : ℕ) → P q ≡ false) → (end lines next : ℕ) (finished : Bool) → pageOver P end lines next finished .found ≡ []
