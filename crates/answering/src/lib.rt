@@ -111,7 +111,7 @@ fn answer_place(
     if p < 1 {
         return Answer::refused(refusal::PLACE);
     }
-    let way = words::way_of(s, shape, lengths, bytes, superblocks, blocks, starts, rank);
+    let way = ways::way_of(s, shape, lengths, bytes, superblocks, blocks, starts, rank);
     let first = way.first;
     let often = words::frequency_by(
         s,
@@ -127,8 +127,8 @@ fn answer_place(
     if often < p {
         return Answer::refused(refusal::PLACE);
     }
-    let near = words::nowhere(superblocks);
-    let next = words::place_along(
+    let near = ways::nowhere(superblocks);
+    let next = ways::place_along(
         s,
         shape,
         lengths,

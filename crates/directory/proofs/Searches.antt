@@ -1,4 +1,4 @@
--- The rows left to a binary search in a table, and what the two searches of `nth` find: the block in which an occurrence stands. Assumes nothing.
+-- The rows left to a binary search in a table, and what the two searches of `block_with` find: the block in which an occurrence stands. Assumes nothing.
 use Prim.Native.Nat.{ℕ, suc, _+_, _*_, _/_, _-_, _≤_, _<_, min}
 use mathlib.Core.Path.{_≡_, sym, ap, _∙_}
 use mathlib.Core.List.{List, []}
@@ -6,9 +6,10 @@ use mathlib.Core.Logic.{_⊎_, inl, inr}
 use native.Mathlib.Nat.{le-refl, suc-mul, zero-mul}
 use native.Mathlib.Omega.{arith}
 use lib.ListN.{length, getD, take, drop}
+use lib.Seq.{take-all}
 use Rattle.base.specs.Lists.{countOf, nth}
 use Rattle.base.proofs.Tests.{below-or-not}
-use Rattle.base.proofs.Counts.{nth-part}
+use Rattle.base.proofs.Counts.{count-part, nth-part}
 use Rattle.directory.specs.Counters.{Sizes, Directory}
 use Rattle.directory.specs.Tables.{LastRow}
 use Rattle.base.proofs.Parts.{quotient-inside, inside-quotient, part-cut}
@@ -78,7 +79,22 @@ position {m} {bytes} {x} {j} {r} stop h e =
     rw (part-cut bytes (r * m) m stop (h .here) e)
     (sym (nth-part x j (r * m) m bytes (h .here) (h .most) (λ (k : r * m + m < length bytes). rw (suc-mul r m) at (h .next (rw (suc-mul r m) (omega arith))))))
 
--- ---- the two searches of `nth`
+-- where there is such an x, the part has more than what is left of j
+pub held-more : {m : ℕ} {bytes : List ℕ} {x j r : ℕ} (stop : ℕ) → Holds m bytes x j r → stop ≡ min (r * m + m) (length bytes) → j < countOf x bytes
+    → j - countOf x (take (r * m) bytes) < countOf x (take (stop - r * m) (drop (r * m) bytes))
+held-more {m} {bytes} {x} {j} {r} stop h e some =
+    let back : r * m + (stop - r * m) ≡ stop = omega (arith, h .here) in
+    let all : countOf x (take stop bytes) ≡ countOf x (take (r * m) bytes) + countOf x (take (stop - r * m) (drop (r * m) bytes)) =
+    rw back at (count-part x (r * m) (stop - r * m) bytes) in
+    omega (arith, h .most, all, go (below-or-not (length bytes) (r * m + m)))
+  where
+    go : (length bytes < r * m + m) ⊎ (r * m + m ≤ length bytes) → j < countOf x (take stop bytes)
+    go (inl l) = rw (take-all stop bytes (omega arith)) some
+    go (inr l) =
+        let s : stop ≡ suc r * m = omega (arith, suc-mul r m) in
+        rw s (h .next (omega (arith, suc-mul r m)))
+
+-- ---- the search of the block
 
 module _ {block per : ℕ} {bytes superblocks blocks : List ℕ} (sizes : Sizes block per bytes) (directory : Directory block per bytes superblocks blocks) (x j : ℕ) (byte : x < 256) where
   -- superblock row 0 has none

@@ -1,3 +1,4 @@
 pub mod Counters
 pub mod Tables
+pub mod Blocks
 pub mod Laws

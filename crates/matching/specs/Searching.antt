@@ -1,8 +1,8 @@
 -- What the tests of this crate require, over the text of arrays that have passed the check.
-use Prim.Native.Nat.{ℕ, _≤_, _<_}
+use Prim.Native.Nat.{ℕ, _≤_}
 use mathlib.Core.Path.{_≡_}
 use mathlib.Core.List.{List, map}
-use lib.ListN.{length, getD}
+use lib.ListN.{length}
 use Rattle.base.specs.Lists.{Below}
 use Rattle.base.specs.Texts.{maxPhrase}
 use Rattle.dense.specs.Code.{code}
@@ -33,8 +33,3 @@ pub record Searching (s : ℕ) (shape : Shape) (a : Arrays) (starts firsts words
 abbrev pub Paired : List ℕ → Sought → Type 0
 Paired words Phrase = Unit {0}
 Paired words (Pair d) = length words ≡ 2
-
--- a place that may have what is sought: one of the text or its end, and of a pair one with the first word
-abbrev pub MayStand : List ℕ → List ℕ → Sought → ℕ → Type 0
-MayStand t words Phrase q = q ≤ length t
-MayStand t words (Pair d) q = (q < length t) × (getD t q 0 ≡ getD words 0 0)

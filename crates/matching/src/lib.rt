@@ -8,7 +8,7 @@ ghost use mathlib.Core.Bool.{true, _&&_};
 ghost use Prim.Native.Nat.{_+_, _≤_, _<_};
 ghost use lib.Dec.{eqb};
 ghost use lib.IntN.{pos, _+ℤ_, natAbs};
-ghost use lib.ListN.{length};
+ghost use lib.ListN.{length, getD};
 ghost use Rattle.base.specs.Lists.{Below};
 ghost use Rattle.base.specs.Answers.{front};
 ghost use Rattle.dense.specs.Code.{Closing, code, maxVocabulary};
@@ -18,9 +18,9 @@ ghost use Rattle.words.specs.Words.{rankAt};
 ghost use Rattle.words.specs.Ready.{Ready};
 ghost use Rattle.phrases.specs.Phrases.{stands};
 ghost use Rattle.phrases.specs.Neighbours.{standsAt};
-ghost use Rattle.documents.specs.Documents.{isAscending, sameDocument, standsIn};
+ghost use Rattle.documents.specs.Documents.{isAscending, sameDocument, standsIn, neighbourIn};
 ghost use Rattle.matching.specs.Sought.{hitIn};
-ghost use Rattle.matching.specs.Searching.{firstBytes, Searching, Paired, MayStand};
+ghost use Rattle.matching.specs.Searching.{firstBytes, Searching, Paired};
 use index::Shape;
 use phrases::Found;
 use tree::Place;
@@ -242,7 +242,58 @@ fn neighbour_at(
     }
 }
 
-// Whether what is sought stands at a place that may have it, inside one document.
+// Whether the first of two words stands at a place and the second at an offset from it, in the same
+// document: the first is read whole, and where it stands there the second is looked at.
+fn pair_at(
+    s: usize,
+    shape: Shape,
+    lengths: &[u32],
+    bytes: &[u8],
+    superblocks: &[u32],
+    blocks: &[u16],
+    starts: &[u32],
+    documents: &[u32],
+    firsts: &[u8],
+    words: &[u32],
+    place: Place,
+    offset: i32,
+) -> bool
+    ghost { Arrays }
+    requires { λ a. ⌜ arrays (now lengths) (now bytes) (now superblocks) (now blocks) ≡ a ⌝ }
+    requires { λ a. ⌜ Searching s shape a (now starts) (now firsts) (now words) × (length (now words) ≡ 2) × (place .0 < length (textIn s a)) × (isAscending (now documents) ≡ true) ⌝ }
+    ensures { λ a r. ⌜ r ≡ neighbourIn (now (documents .entry)) (textIn s a) (getD (now (words .entry)) 0 0) (getD (now (words .entry)) 1 0) offset (place .0) ⌝ }
+{
+    let first = words[0] as usize;
+    if !agrees_at(
+        s,
+        shape,
+        lengths,
+        bytes,
+        superblocks,
+        blocks,
+        starts,
+        place,
+        first,
+    ) {
+        return false;
+    }
+    neighbour_at(
+        s,
+        shape,
+        lengths,
+        bytes,
+        superblocks,
+        blocks,
+        starts,
+        documents,
+        firsts[1],
+        words[1] as usize,
+        place,
+        offset,
+    )
+}
+
+// Whether what is sought stands at a place of the text, inside one document.
 pub fn hit_at(
     s: usize,
     shape: Shape,
@@ -259,7 +310,7 @@ pub fn hit_at(
 ) -> bool
     ghost { Arrays }
     requires { λ a. ⌜ arrays (now lengths) (now bytes) (now superblocks) (now blocks) ≡ a ⌝ }
-    requires { λ a. ⌜ Searching s shape a (now starts) (now firsts) (now words) × Paired (now words) sought × MayStand (textIn s a) (now words) sought (place .0) × (isAscending (now documents) ≡ true) ⌝ }
+    requires { λ a. ⌜ Searching s shape a (now starts) (now firsts) (now words) × Paired (now words) sought × (place .0 < length (textIn s a)) × (isAscending (now documents) ≡ true) ⌝ }
     ensures { λ a r. ⌜ r ≡ hitIn (now (documents .entry)) (textIn s a) (now (words .entry)) sought (place .0) ⌝ }
 {
     match sought {
@@ -276,7 +327,7 @@ pub fn hit_at(
             words,
             place,
         ),
-        Sought::Pair(offset) => neighbour_at(
+        Sought::Pair(offset) => pair_at(
             s,
             shape,
             lengths,
@@ -285,8 +336,8 @@ pub fn hit_at(
             blocks,
             starts,
             documents,
-            firsts[1],
-            words[1] as usize,
+            firsts,
+            words,
             place,
             offset,
         ),

@@ -3,4 +3,3 @@ pub mod Samples
 pub mod Parts
 pub mod Positions
 pub mod Walking
-pub mod Ways

@@ -1,6 +1,6 @@
-// The words of an index: the rank at a place, how often a rank stands below a place, and where it
-// stands for the j-th time, by walks down and up the byte tree. A walk passes at most three nodes,
-// and asks the directory at most twice in each.
+// The words of an index: the rank at a place, and how often a rank stands below a place, by walks
+// down the byte tree. A walk passes at most three nodes, and asks the directory at most twice in
+// each.
 //
 // No function of this crate is an entry: the public ones require that the four slices have passed
 // the check and that `starts` is a table that `starts::node_starts` has filled, the others what their
@@ -8,12 +8,12 @@
 ghost use mathlib.Core.Path.{_≡_};
 ghost use Prim.Native.Nat.{_≤_, _<_};
 ghost use lib.ListN.{length, getD, take};
-ghost use Rattle.base.specs.Lists.{countOf, nth};
+ghost use Rattle.base.specs.Lists.{countOf};
 ghost use Rattle.tree.specs.Nodes.{position, nodeOf, closingByte};
 ghost use Rattle.index.specs.Arrays.{Arrays, arrays, textIn};
 ghost use Rattle.words.specs.Words.{rankAt, occurrencesBelow, frequency};
 ghost use Rattle.words.specs.Ready.{nodeFrom, Counted, Ready, WordsOf};
-ghost use Rattle.words.specs.Ways.{StepIn, WayOf};
+ghost use Rattle.words.specs.Steps.{StepIn, BelowOf};
 use index::Shape;
 use tree::Place;
 use tree::Position;
@@ -44,7 +44,7 @@ pub struct Step {
 }
 
 // The step that looks for a byte in a node.
-fn step_in(
+pub fn step_in(
     shape: Shape,
     bytes: &[u8],
     superblocks: &[u32],
@@ -107,41 +107,6 @@ fn count_in_node(
 {
     let step = step_in(shape, bytes, superblocks, blocks, starts, node, byte);
     count_in_step(shape, bytes, superblocks, blocks, starts, step, at)
-}
-
-// What a step finds: a position in its node, and the superblock row in which it lies.
-struct Located {
-    at: Position,
-    superblock: usize,
-}
-
-// The position in the node of a step of the byte that has j others equal to it before it in the
-// node, sought near a superblock row.
-fn nth_in_node(
-    shape: Shape,
-    bytes: &[u8],
-    superblocks: &[u32],
-    blocks: &[u16],
-    starts: &[u32],
-    step: Step,
-    j: usize,
-    near: usize,
-) -> Located
-    requires { ⌜ Counted shape (now bytes) (now superblocks) (now blocks) (now starts) (step .node) × StepIn (now bytes) (now starts) (step .node) (step .byte) step × (j < countOf (step .byte) (nodeFrom (now bytes) (now starts) (step .node))) ⌝ }
-    ensures { λ r. ⌜ r .at .0 ≡ nth (step .byte) j (nodeFrom (now (bytes .entry)) (now (starts .entry)) (step .node)) ⌝ }
-{
-    let node = step.node;
-    let start = starts[node] as usize;
-    let block = shape.block;
-    let per = shape.per_superblock;
-    let byte = step.byte;
-    let ordinal = step.skipped + j;
-    let found = directory::nth(bytes, superblocks, blocks, block, per, byte, ordinal, near);
-    let at = found.at - start;
-    Located {
-        at: Position(at),
-        superblock: found.superblock,
-    }
 }
 
 // The position in a node of a place of the text or of its end: by the position in the node's parent.
@@ -209,8 +174,49 @@ pub fn word_at(
     (s * node + (byte as usize - least)) as u32
 }
 
+// How often a rank stands below a place, and the position of the place in the node where its codeword
+// ends.
+pub struct Below {
+    pub at: Position,
+    pub count: usize,
+}
+
 // How often a rank stands below a place of the text, or in the whole text at its end: so often its
 // closing byte stands below the position of the place in the node where its codeword ends.
+pub fn count_below(
+    s: usize,
+    shape: Shape,
+    lengths: &[u32],
+    bytes: &[u8],
+    superblocks: &[u32],
+    blocks: &[u16],
+    starts: &[u32],
+    rank: usize,
+    place: Place,
+) -> Below
+    ghost { Arrays }
+    requires { λ a. ⌜ arrays (now lengths) (now bytes) (now superblocks) (now blocks) ≡ a ⌝ }
+    requires { λ a. ⌜ Ready s shape a (now starts) × (rank < shape .vocabulary) × (place .0 ≤ length (textIn s a)) ⌝ }
+    ensures { λ a r. ⌜ BelowOf s (a .bytes) (now (starts .entry)) rank r × (r .count ≡ occurrencesBelow (textIn s a) rank (place .0)) ⌝ }
+{
+    let node = tree::node_of(s, rank);
+    let byte = tree::closing_byte(s, rank);
+    let at = position_in(
+        s,
+        shape,
+        lengths,
+        bytes,
+        superblocks,
+        blocks,
+        starts,
+        node,
+        place,
+    );
+    let count = count_in_node(shape, bytes, superblocks, blocks, starts, node, byte, at);
+    Below { at, count }
+}
+
+// The number alone.
 pub fn occurrences_below(
     s: usize,
     shape: Shape,
@@ -227,9 +233,7 @@ pub fn occurrences_below(
     requires { λ a. ⌜ Ready s shape a (now starts) × (rank < shape .vocabulary) × (place .0 ≤ length (textIn s a)) ⌝ }
     ensures { λ a r. ⌜ r ≡ occurrencesBelow (textIn s a) rank (place .0) ⌝ }
 {
-    let node = tree::node_of(s, rank);
-    let byte = tree::closing_byte(s, rank);
-    let at = position_in(
+    count_below(
         s,
         shape,
         lengths,
@@ -237,10 +241,9 @@ pub fn occurrences_below(
         superblocks,
         blocks,
         starts,
-        node,
+        rank,
         place,
-    );
-    count_in_node(shape, bytes, superblocks, blocks, starts, node, byte, at)
+    ).count
 }
 
 // How often a rank stands in the text, by the first step of its way: so often its closing byte stands
@@ -297,170 +300,4 @@ pub fn frequency(
         rank,
         first,
     )
-}
-
-// The way of a rank from the node where its codeword ends up to the root: as many steps as its
-// codeword has bytes.
-pub struct Way {
-    pub length: usize,
-    pub first: Step,
-    pub second: Step,
-    pub third: Step,
-}
-
-// The way of a rank: its closing byte in the node where its codeword ends, and from each node other
-// than the root its digit in the parent.
-pub fn way_of(
-    s: usize,
-    shape: Shape,
-    lengths: &[u32],
-    bytes: &[u8],
-    superblocks: &[u32],
-    blocks: &[u16],
-    starts: &[u32],
-    rank: usize,
-) -> Way
-    ghost { Arrays }
-    requires { λ a. ⌜ arrays (now lengths) (now bytes) (now superblocks) (now blocks) ≡ a ⌝ }
-    requires { λ a. ⌜ Ready s shape a (now starts) × (rank < shape .vocabulary) ⌝ }
-    ensures { λ a r. ⌜ WayOf s (a .bytes) (now (starts .entry)) rank r ⌝ }
-{
-    let node = tree::node_of(s, rank);
-    let byte = tree::closing_byte(s, rank);
-    let first = step_in(shape, bytes, superblocks, blocks, starts, node, byte);
-    if node == 0 {
-        return Way {
-            length: 1,
-            first,
-            second: first,
-            third: first,
-        };
-    }
-    let up = tree::parent(s, node);
-    let digit = tree::digit(s, node);
-    let second = step_in(shape, bytes, superblocks, blocks, starts, up, digit);
-    if up == 0 {
-        return Way {
-            length: 2,
-            first,
-            second,
-            third: second,
-        };
-    }
-    let top = tree::parent(s, up);
-    let lead = tree::digit(s, up);
-    let third = step_in(shape, bytes, superblocks, blocks, starts, top, lead);
-    Way {
-        length: 3,
-        first,
-        second,
-        third,
-    }
-}
-
-// The superblock rows near which the steps of a way seek; they decide how long that takes, and
-// nothing else.
-pub struct Near {
-    pub first: usize,
-    pub second: usize,
-    pub third: usize,
-}
-
-// No row: each step seeks among all.
-pub fn nowhere(superblocks: &[u32]) -> Near {
-    let rows = superblocks.len();
-    Near {
-        first: rows,
-        second: rows,
-        third: rows,
-    }
-}
-
-// A place at which a rank stands, and the rows near which the one after it is sought.
-pub struct Next {
-    pub place: Place,
-    pub near: Near,
-}
-
-// The place at which a rank stands with j others of it before it, along its way: up from its closing
-// byte in the node where its codeword ends, to the root, where a position is a place.
-pub fn place_along(
-    s: usize,
-    shape: Shape,
-    lengths: &[u32],
-    bytes: &[u8],
-    superblocks: &[u32],
-    blocks: &[u16],
-    starts: &[u32],
-    rank: usize,
-    way: Way,
-    near: Near,
-    j: usize,
-) -> Next
-    ghost { Arrays }
-    requires { λ a. ⌜ arrays (now lengths) (now bytes) (now superblocks) (now blocks) ≡ a ⌝ }
-    requires { λ a. ⌜ Ready s shape a (now starts) × (rank < shape .vocabulary) × WayOf s (a .bytes) (now starts) rank way × (j < frequency (textIn s a) rank) ⌝ }
-    ensures { λ a r. ⌜ r .place .0 ≡ nth rank j (textIn s a) ⌝ }
-{
-    let first = way.first;
-    let low = nth_in_node(
-        shape,
-        bytes,
-        superblocks,
-        blocks,
-        starts,
-        first,
-        j,
-        near.first,
-    );
-    if way.length == 1 {
-        return Next {
-            place: tree::root_place(low.at),
-            near: Near {
-                first: low.superblock,
-                second: 0,
-                third: 0,
-            },
-        };
-    }
-    let second = way.second;
-    let middle = nth_in_node(
-        shape,
-        bytes,
-        superblocks,
-        blocks,
-        starts,
-        second,
-        low.at.0,
-        near.second,
-    );
-    if way.length == 2 {
-        return Next {
-            place: tree::root_place(middle.at),
-            near: Near {
-                first: low.superblock,
-                second: middle.superblock,
-                third: 0,
-            },
-        };
-    }
-    let third = way.third;
-    let high = nth_in_node(
-        shape,
-        bytes,
-        superblocks,
-        blocks,
-        starts,
-        third,
-        middle.at.0,
-        near.third,
-    );
-    Next {
-        place: tree::root_place(high.at),
-        near: Near {
-            first: low.superblock,
-            second: middle.superblock,
-            third: high.superblock,
-        },
-    }
 }
