@@ -13,7 +13,7 @@
 #include "engine.hpp"
 #include "inverted.hpp"
 #include "measure.hpp"
-#include "text.hpp"
+#include "texts.hpp"
 #include "twin.hpp"
 
 // How often each thing is run, by the engine and by the other; the least time counts. An index of another program is built once.
@@ -50,41 +50,57 @@ static void beside(const Engine &engine, const Asked &asked, int kind, const std
     });
 }
 
-// The twin with the scan that reads past the occurrence.
+// The twin with the scan that reads past the occurrence, and the one that looks for phrases and neighbours along the places of their rarest word.
 using ByPieces = twin::Index<twin::scan_by_pieces>;
 static const char *const by_pieces = "scan by pieces, which reads past the hit";
+using Along = twin::Index<twin::exact_scan, twin::Search::places>;
+static const char *const along = "search along occurrences";
+using ByBlocks = twin::Index<twin::exact_scan, twin::Search::blocks>;
+static const char *const by_blocks = "search by whole blocks";
 
 // A sheet of one kind beside a twin: the check is paid once, by the engine and by the twin.
 template <class Index> static void sheet_beside(const Engine &engine, const Asked &asked, int kind, const char *other) {
     const auto &qs = asked.kinds[kind];
     sheet(engine, asked, kind, sheet_of(kind, asked), other, [&](std::vector<uint32_t> &theirs) {
-        must(twin::check(engine.a, vocabulary), "check");
+        must(twin::check(engine.a, engine.shape.vocabulary), "check");
         const Index index(engine.a);
         for (size_t i = 0; i < qs.size(); i++) theirs[i] = answer(index, qs[i], asked);
     });
 }
 
-// The sheets of the five kinds; kinds 3 to 5 search for occurrences, and are measured beside both scans.
+// The sheets of the five kinds; kind 3 is measured beside both scans, kinds 4 and 5 beside both searches.
 static void sheets(const Engine &engine, const Asked &asked) {
     for (int kind = 1; kind <= 5; kind++) sheet_beside<twin::Index<>>(engine, asked, kind, "twin");
-    for (int kind = 3; kind <= 5; kind++) sheet_beside<ByPieces>(engine, asked, kind, by_pieces);
+    sheet_beside<ByPieces>(engine, asked, 3, by_pieces);
+    for (int kind : {4, 5}) {
+        sheet_beside<Along>(engine, asked, kind, along);
+        sheet_beside<ByBlocks>(engine, asked, kind, by_blocks);
+    }
 }
 
-// The first page of a phrase of two words that stands in the text, beside a twin.
-template <class Index> static void page_beside(const Engine &engine, const Asked &asked, const char *other) {
-    const uint32_t *phrase = asked.listed();
-    std::vector<uint32_t> ours(page_lines), theirs(page_lines);
+// A page beside a twin.
+template <class Index> static void page_beside(const Engine &engine, const Page &asked, const char *other) {
+    const std::vector<uint32_t> &phrase = asked.phrase;
+    std::vector<uint32_t> ours(asked.lines), theirs(asked.lines);
     concordance_page page;
     uint32_t count = 0;
     bool more = false;
     const Both time = in_turn(
-        runs, [&] { page = engine.page(concordance_open(), phrase, 2, ours); },
+        runs, [&] { page = engine.page({asked.next, false}, phrase.data(), phrase.size(), ours); },
         [&] {
-            must(twin::check(engine.a, vocabulary), "check");
-            more = Index(engine.a).page(phrase, 2, 0, theirs, count);
+            must(twin::check(engine.a, engine.shape.vocabulary), "check");
+            more = Index(engine.a).page(phrase.data(), phrase.size(), asked.next, theirs, count);
         });
     must(page.answer.refusal == 0 && page.answer.value == count && page.more == more && ours == theirs, "page");
-    table.add(engine.a.lengths[0], page_of(page_lines), time.one, other, time.other);
+    table.add(engine.a.lengths[0], asked.what, time.one, other, time.other);
+}
+
+// The pages, beside both searches.
+static void pages(const Engine &engine, const Asked &asked) {
+    for (const Page &page : asked.pages) {
+        page_beside<twin::Index<>>(engine, page, "twin");
+        page_beside<Along>(engine, page, along);
+    }
 }
 
 // The first page of the phrase of no words and its count, beside the twin and beside the check alone, which is all that they take but for the
@@ -102,7 +118,7 @@ static void no_words(const Engine &engine, const Asked &asked) {
     const auto list = [&] { page = engine.page(concordance_open(), asked.words.data(), 0, ours); };
     const auto ask = [&] { count = engine.ask(asked.words, {5, 0, 0, 0, 0, 0, 0}); };
     const Both paged = in_turn(runs, list, [&] {
-        must(twin::check(engine.a, vocabulary), "check");
+        must(twin::check(engine.a, engine.shape.vocabulary), "check");
         more = twin::page_of_no_words(engine.a, 0, theirs, written);
     });
     must(page.answer.refusal == 0 && page.answer.value == written && page.more == more && ours == theirs, page_row);
@@ -110,7 +126,7 @@ static void no_words(const Engine &engine, const Asked &asked) {
     const Both page_alone = in_turn(runs, list, check);
     table.add(n, page_row, page_alone.one, alone, page_alone.other);
     const Both counted = in_turn(runs, ask, [&] {
-        must(twin::check(engine.a, vocabulary), "check");
+        must(twin::check(engine.a, engine.shape.vocabulary), "check");
         places = size_t(engine.a.lengths[0]) + 1;
     });
     must(count.refusal == 0 && count.value == places, count_row);
@@ -124,7 +140,7 @@ static void passages(const Engine &engine, const std::vector<uint32_t> &text) {
     const Both time = in_turn(
         runs, [&] { must(engine.passage(5000, ours).refusal == 0, "passage"); },
         [&] {
-            must(twin::check(engine.a, vocabulary), "check");
+            must(twin::check(engine.a, engine.shape.vocabulary), "check");
             const twin::Index index(engine.a);
             for (size_t i = 0; i < theirs.size(); i++) theirs[i] = index.word_at(5000 + i);
         });
@@ -141,9 +157,11 @@ static const std::vector<uint8_t> letters = [] {
 
 // Reading a stream and a plain text, the stream beside a plain loop over its bytes, the plain text beside the twin, and by a lent letter table
 // beside the built-in one.
-static void reading(const std::vector<uint32_t> &text) {
+static void reading(const Text &read_from) {
+    const std::vector<uint32_t> &text = read_from.words;
+    const std::string &list = read_from.list, &plain = read_from.plain;
     std::vector<uint8_t> stream(text.size() * 3);
-    const size_t size = concordance_write_stream(vocabulary, text.data(), text.size(), stream.data(), stream.size()).value;
+    const size_t size = concordance_write_stream(read_from.vocabulary, text.data(), text.size(), stream.data(), stream.size()).value;
     std::vector<uint32_t> ours(text.size()), theirs(text.size());
     const Both streamed = in_turn(
         runs, [&] { must(concordance_read_stream(stream.data(), size, ours.data(), ours.size()).refusal == 0, "stream"); },
@@ -158,9 +176,6 @@ static void reading(const std::vector<uint32_t> &text) {
     must(ours == text && theirs == text, "stream");
     table.add(text.size(), "reading a stream", streamed.one, "twin", streamed.other);
 
-    std::string list, plain;
-    for (uint32_t rank = 0; rank < vocabulary; rank++) list += spelling(rank) + '\n';
-    for (uint32_t word : text) plain += spelling(word) + ' ';
     std::fill(ours.begin(), ours.end(), 0);
     std::fill(theirs.begin(), theirs.end(), 0);
     const auto by_built_in = [&] {
@@ -181,7 +196,7 @@ static void reading(const std::vector<uint32_t> &text) {
     must(ours == text, "plain text by a lent table");
     const Both lent = in_turn(runs, by_lent, by_built_in);
     table.add(text.size(), "reading plain text by a lent letter table", lent.one, "the built-in table", lent.other);
-    std::printf("reading plain text of %zu words, %u listed: %.1f MB/s\n", text.size(), vocabulary, plain.size() / read.one / 1e6);
+    std::printf("reading plain text of %zu words, %u listed: %.1f MB/s\n", text.size(), read_from.vocabulary, plain.size() / read.one / 1e6);
 }
 
 // Making the word list of a plain text of the most bytes, beside a hash map with a stable sort, beside reading the same text through its list, and by a lent
@@ -250,7 +265,7 @@ static uint32_t phrase_along(const sdsl::wt_int<> &tree, const uint32_t *phrase,
 
 // libsdsl: kinds 1 to 3 and phrases in an integer wavelet tree, and phrases in a compressed suffix array.
 static void libsdsl(const std::vector<uint32_t> &text, const Asked &asked, const Engine &engine) {
-    sdsl::int_vector<> ranks(text.size(), 0, 17);
+    sdsl::int_vector<> ranks(text.size(), 0, sdsl::bits::hi(engine.shape.vocabulary) + 1);
     for (size_t i = 0; i < text.size(); i++) ranks[i] = text[i] + 1;
     sdsl::wt_int<> tree;
     std::printf("libsdsl wt_int: built in %.3f s", seconds(1, [&] { sdsl::construct_im(tree, ranks); }));
@@ -273,7 +288,7 @@ static void libsdsl(const std::vector<uint32_t> &text, const Asked &asked, const
 }
 
 // An index whose counters take at most so many bytes.
-static Engine within(size_t counters, const std::vector<uint32_t> &text) {
+static Engine within(size_t counters, const std::vector<uint32_t> &text, uint32_t vocabulary) {
     const uint32_t per = 8;
     const size_t size = twin::stream_length(text);
     const size_t counters_a_block = 256 * sizeof(uint16_t) + 256 * sizeof(uint32_t) / per;
@@ -288,14 +303,14 @@ static Engine within(size_t counters, const std::vector<uint32_t> &text) {
 // inverted index needs a copy of it beside it, which is no smaller in codewords.
 static void inverted(const std::vector<uint32_t> &text, const Asked &asked, const Engine &engine) {
     Inverted *index = nullptr;
-    const double built = seconds(1, [&] { index = new Inverted(text, vocabulary); });
+    const double built = seconds(1, [&] { index = new Inverted(text, engine.shape.vocabulary); });
     std::printf("inverted index: built in %.3f s, %.2f bytes a word\n", built, double(index->space()) / text.size());
     using Question = concordance_question;
     const auto phrase = [&](const Question &q) { return index->phrase(&asked.words[q.start], q.length); };
     const auto neighbours = [&](const Question &q) { return index->neighbours(q.w, q.v, q.d); };
     beside(engine, asked, 5, "phrases, 400 counts", "inverted index", phrase);
     beside(engine, asked, 4, sheet_of(4, asked), "inverted index", neighbours);
-    const Engine equal = within(index->space(), text);
+    const Engine equal = within(index->space(), text, engine.shape.vocabulary);
     beside(equal, asked, 5, "phrases, 400 counts, at equal space", "inverted index", phrase);
     beside(equal, asked, 4, sheet_of(4, asked) + ", at equal space", "inverted index", neighbours);
     delete index;
@@ -327,7 +342,7 @@ static void add_count_places(sqlite3 *db) {
     must(api != nullptr && api->xCreateFunction(api, "places", nullptr, count_places, nullptr) == SQLITE_OK, "FTS5");
 }
 
-// SQLite's FTS5: it counts the rows that have a phrase, which is no answer of the engine's, and the places of a phrase.
+// SQLite's FTS5: it counts the rows that have a phrase, which is no answer of the engine's, and the places of a phrase, which a pair of neighbours is too.
 static void fts5(const std::vector<uint32_t> &text, const Asked &asked, const Engine &engine) {
     sqlite3 *db;
     sqlite3_open(":memory:", &db);
@@ -353,14 +368,20 @@ static void fts5(const std::vector<uint32_t> &text, const Asked &asked, const En
     sqlite3_step(ask);
     std::printf("SQLite FTS5: built in %.3f s, %.2f bytes a word\n", built, double(sqlite3_column_int64(ask, 0)) / text.size());
     sqlite3_finalize(ask);
-    auto counted = [&](const concordance_question &q) {
+    const auto counted = [&](const uint32_t *words, size_t m) {
         std::string phrase = "\"";
-        for (size_t i = 0; i < q.length; i++) phrase += spelling(asked.words[q.start + i]) + (i + 1 < q.length ? " " : "\"");
+        for (size_t i = 0; i < m; i++) phrase += spelling(words[i]) + (i + 1 < m ? " " : "\"");
         sqlite3_bind_text(ask, 1, phrase.data(), phrase.size(), SQLITE_TRANSIENT);
         uint32_t count = 0;
         while (sqlite3_step(ask) == SQLITE_ROW) count += sqlite3_column_int64(ask, 0);
         must(sqlite3_reset(ask) == SQLITE_OK, "FTS5");
         return count;
+    };
+    const auto count_phrase = [&](const concordance_question &q) { return counted(&asked.words[q.start], q.length); };
+    const auto count_neighbours = [&](const concordance_question &q) {
+        const uint32_t pair[2] = {q.w, q.v};
+        must(q.d == 1, "FTS5");
+        return counted(pair, 2);
     };
     sqlite3_prepare_v2(db, "SELECT count(*) FROM t WHERE t MATCH ?", -1, &ask, nullptr);
     const auto &qs = asked.kinds[5];
@@ -369,19 +390,22 @@ static void fts5(const std::vector<uint32_t> &text, const Asked &asked, const En
     const Both time = in_turn(
         runs, [&] { must(engine.sheet(asked.words, qs, pairs).refusal == 0, "sheet"); },
         [&] {
-            for (const auto &q : qs) rows += counted(q);
+            for (const auto &q : qs) rows += count_phrase(q);
         });
     must(rows > 0, "FTS5");
     table.add(text.size(), "phrases, 400 counts", time.one, "SQLite FTS5 (rows)", time.other);
     sqlite3_finalize(ask);
     sqlite3_prepare_v2(db, "SELECT places(t) FROM t WHERE t MATCH ?", -1, &ask, nullptr);
-    beside(engine, asked, 5, "phrases, 400 counts", "SQLite FTS5 (places)", counted);
+    beside(engine, asked, 5, "phrases, 400 counts", "SQLite FTS5 (places)", count_phrase);
+    beside(engine, asked, 4, sheet_of(4, asked), "SQLite FTS5 (places)", count_neighbours);
     sqlite3_finalize(ask);
     sqlite3_close(db);
 }
 
-static void measure(size_t n, uint32_t block, uint32_t per, bool peers) {
-    const std::vector<uint32_t> text = zipf_text(n, vocabulary, 20261115);
+static void measure(const Text &source, uint32_t block, uint32_t per, bool peers) {
+    const std::vector<uint32_t> &text = source.words;
+    const uint32_t vocabulary = source.vocabulary;
+    const size_t n = text.size();
     twin::Arrays made = twin::sized(vocabulary, block, per, twin::stream_length(text));
     Engine engine{{vocabulary, block, per}, made};
     concordance_sizes sizes;
@@ -407,57 +431,63 @@ static void measure(size_t n, uint32_t block, uint32_t per, bool peers) {
     uint64_t sum = 0;
     const Both counted = in_turn(runs, check, [&] { sum += twin::histogram(engine.a.bytes); });
     table.add(n, "check", counted.one, "plain histogram", counted.other);
-    std::printf("the index: B %u, b %u, %.2f bytes a word, of which %.2f are node bytes (%llu)\n", block, per, double(made.space()) / n,
-                double(made.bytes.size()) / n, (unsigned long long)sum % 10);
-    const Asked asked = questions(text, 7);
+    std::printf("the index: V %u, B %u, b %u, %.2f bytes a word, of which %.2f are node bytes (%llu)\n", vocabulary, block, per,
+                double(made.space()) / n, double(made.bytes.size()) / n, (unsigned long long)sum % 10);
+    const Asked asked = questions(text, vocabulary, 7);
     sheets(engine, asked);
-    page_beside<twin::Index<>>(engine, asked, "twin");
-    page_beside<ByPieces>(engine, asked, by_pieces);
+    pages(engine, asked);
     no_words(engine, asked);
     passages(engine, text);
-    reading(text);
+    reading(source);
     if (!peers) return;
     inverted(text, asked, engine);
     libsdsl(text, asked, engine);
     fts5(text, asked, engine);
 }
 
-// Time against n of each thing that was measured beside the twin.
+// Time against n of each thing that was measured beside the twin over a text that is drawn.
 static void plot(const char *file) {
     std::ofstream out(file);
-    out << "<svg xmlns=\"http://www.w3.org/2000/svg\" viewBox=\"0 0 760 420\" font-family=\"sans-serif\" font-size=\"11\">\n"
+    out << "<svg xmlns=\"http://www.w3.org/2000/svg\" viewBox=\"0 0 800 420\" font-family=\"sans-serif\" font-size=\"11\">\n"
         << "<text x=\"20\" y=\"20\" font-size=\"14\">Seconds of a call against the words of the text (both in powers of ten): engine solid, twin dashed</text>\n";
     const char *colours[] = {"#1b6ca8", "#c0392b", "#2e8b57", "#8e44ad", "#b8860b", "#444444", "#e67e22",
-                             "#16a085", "#7f8c8d", "#d35400", "#e84393", "#5d4037", "#00838f", "#6b8e23", "#4b0082"};
+                             "#16a085", "#7f8c8d", "#d35400", "#e84393", "#5d4037", "#00838f", "#6b8e23", "#4b0082",
+                             "#990000", "#003366", "#556b2f", "#a0522d", "#708090", "#cc6699"};
     auto x = [](double words) { return 60 + 360 * (std::log10(words) - 6) / 1.3; };
     auto y = [](double time) { return 380 - 54 * (std::log10(time) + 4); };
+    std::vector<Line> lines;
     std::vector<std::string> names;
-    for (const Line &line : table.all())
-        if (line.other == "twin" && std::find(names.begin(), names.end(), line.what) == names.end()) names.push_back(line.what);
+    for (const Line &line : table.all()) {
+        if (line.other != "twin" || std::find(drawn_sizes.begin(), drawn_sizes.end(), line.words) == drawn_sizes.end()) continue;
+        lines.push_back(line);
+        if (std::find(names.begin(), names.end(), line.what) == names.end()) names.push_back(line.what);
+    }
     for (size_t i = 0; i < names.size(); i++) {
         std::string engine, twin;
-        for (const Line &line : table.all()) {
-            if (line.what != names[i] || line.other != "twin") continue;
+        for (const Line &line : lines) {
+            if (line.what != names[i]) continue;
             engine += std::to_string(x(line.words)) + "," + std::to_string(y(line.engine)) + " ";
             twin += std::to_string(x(line.words)) + "," + std::to_string(y(line.peer)) + " ";
         }
-        const char *colour = colours[i % 15];
+        const char *colour = colours[i % std::size(colours)];
         out << "<polyline points=\"" << engine << "\" fill=\"none\" stroke=\"" << colour << "\" stroke-width=\"1.6\"/>\n"
             << "<polyline points=\"" << twin << "\" fill=\"none\" stroke=\"" << colour << "\" stroke-dasharray=\"4 3\"/>\n"
-            << "<text x=\"460\" y=\"" << 60 + 18 * i << "\" fill=\"" << colour << "\">" << names[i] << "</text>\n";
+            << "<text x=\"460\" y=\"" << 40 + 17 * i << "\" fill=\"" << colour << "\">" << names[i] << "</text>\n";
     }
     for (int p = -4; p <= 1; p++)
         out << "<text x=\"10\" y=\"" << y(std::pow(10, p)) << "\">1e" << p << " s</text>\n";
-    for (size_t words : {1000000, 4000000, 16000000}) out << "<text x=\"" << x(words) - 10 << "\" y=\"405\">" << words / 1000000 << " M</text>\n";
+    for (size_t words : drawn_sizes) out << "<text x=\"" << x(words) - 10 << "\" y=\"405\">" << words / 1000000 << " M</text>\n";
     out << "</svg>\n";
 }
 
+// The arguments are B and b, with which the peers are left out, and the name of the only text; both may be left out.
 int main(int count, char **arguments) {
     const bool given = count > 2;
+    std::vector<std::string> names = text_names();
+    if (count == 2 || count == 4) names = {arguments[count - 1]};
     std::printf("| words | measured | engine, ms | beside | its time, ms | ratio |\n|---|---|---|---|---|---|\n");
-    for (size_t n : {1000000, 4000000, 16000000}) {
-        measure(n, given ? std::atoi(arguments[1]) : 848, given ? std::atoi(arguments[2]) : 64, !given);
-    }
+    for (const std::string &name : names)
+        measure(text_named(name), given ? std::atoi(arguments[1]) : 848, given ? std::atoi(arguments[2]) : 64, !given);
     for (uint32_t words : {6000, 50}) making(words);
     letter_checks();
     plot("times.svg");

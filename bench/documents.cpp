@@ -9,7 +9,7 @@
 #include "engine.hpp"
 #include "inverted.hpp"
 #include "measure.hpp"
-#include "text.hpp"
+#include "texts.hpp"
 #include "twin.hpp"
 
 #include <numeric>
@@ -25,15 +25,6 @@ using Starts = const std::vector<uint32_t> *;
 // The lines of a page, and the phrase of the two most frequent words, of which the first page, the count and the summary are measured.
 static const size_t lines = 100;
 static const std::vector<uint32_t> frequent = {0, 1};
-
-// So many document starts of a text of n words, drawn with a seed: 0, and each other place with the probability that is left for it.
-static std::vector<uint32_t> drawn_starts(size_t count, size_t n, uint64_t seed) {
-    std::mt19937_64 random(seed);
-    std::vector<uint32_t> starts = {0};
-    for (size_t place = 1; place < n; place++)
-        if (random() % (n - place) < count - starts.size()) starts.push_back(place);
-    return starts;
-}
 
 // The engine, the twin and the inverted index over one text, and their calls that are measured: each fills its answers.
 class Programs {
@@ -107,7 +98,7 @@ class Programs {
 
     // The twin over the index and the starts, both checked.
     twin::Index<> checked(Starts starts) const {
-        must(twin::check(engine.a, vocabulary) && (!starts || twin::check_starts(*starts, engine.a.lengths[0])), "check");
+        must(twin::check(engine.a, drawn_vocabulary) && (!starts || twin::check_starts(*starts, engine.a.lengths[0])), "check");
         return twin::Index<>(engine.a, starts);
     }
 
@@ -183,12 +174,12 @@ static std::string with(const std::string &what, size_t starts) { return what + 
 
 // Measures all things on a text of n words.
 static void measure(size_t n) {
-    const std::vector<uint32_t> text = zipf_text(n, vocabulary, 20261115);
+    const std::vector<uint32_t> text = zipf_text(n, drawn_vocabulary, 20261115);
     const uint32_t block = 848, per = 64;
-    Engine engine{{vocabulary, block, per}, twin::sized(vocabulary, block, per, twin::stream_length(text))};
+    Engine engine{{drawn_vocabulary, block, per}, twin::sized(drawn_vocabulary, block, per, twin::stream_length(text))};
     must(engine.build(text).refusal == 0, "build");
-    const Inverted inverted(text, vocabulary);
-    const Asked asked = questions(text, 7);
+    const Inverted inverted(text, drawn_vocabulary);
+    const Asked asked = questions(text, drawn_vocabulary, 7);
     const Programs programs(engine, inverted, asked);
 
     std::vector<std::vector<uint32_t>> brought;
