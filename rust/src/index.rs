@@ -123,7 +123,7 @@ impl Index {
 
     /// The number of words of the text: the length of the root.
     pub fn words(&self) -> usize {
-        self.arrays.lengths[0] as usize
+        words_of(self.arrays.slices())
     }
 
     /// Answers one question; kind 5 takes its phrase from the lent words.
@@ -146,16 +146,21 @@ impl Index {
 
     /// So many ranks of the text from a place on.
     pub fn passage(&self, place: usize, length: usize) -> Result<Vec<u32>, Refused> {
-        let mut ranks = vec![0; length.min(self.place_count())];
-        entries::passage(self.shape, self.arrays.slices(), place, &mut ranks).result()?;
-        Ok(ranks)
+        passage_of(self.shape, self.arrays.slices(), place, length)
     }
+}
 
-    /// The number of places from 0 to n, which is one more than the text has words: no passage has so many ranks, and no phrase stands more
-    /// often. Longer slices have the same answers, so none is made.
-    pub(crate) fn place_count(&self) -> usize {
-        self.words() + 1
-    }
+/// The number of words of the text of four arrays that pass the check: the length of the root, 0 where there is none.
+pub(crate) fn words_of(arrays: Slices) -> usize {
+    arrays.lengths.first().map_or(0, |&words| words as usize)
+}
+
+/// So many ranks from a place on. No passage has more ranks than the text has words; one more is refused as every longer one, so that no longer slice
+/// is made.
+pub(crate) fn passage_of(shape: Shape, arrays: Slices, place: usize, length: usize) -> Result<Vec<u32>, Refused> {
+    let mut ranks = vec![0; length.min(words_of(arrays) + 1)];
+    entries::passage(shape, arrays, place, &mut ranks).result()?;
+    Ok(ranks)
 }
 
 /// The answers of a sheet of questions, of the pairs that a call writes for them.

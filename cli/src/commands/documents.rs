@@ -1,0 +1,44 @@
+//! `concord documents`: how often a phrase stands in each document.
+use super::{absence, found};
+use crate::args::DocumentsArguments;
+use crate::collection::Collection;
+use crate::fault::Fault;
+use crate::output::{Colour, Output};
+use crate::Found;
+use std::io::Write;
+use std::os::unix::ffi::OsStrExt;
+
+/// Prints the count of a phrase by document, and their sum, which is the count of the phrase.
+pub fn run(given: &DocumentsArguments, pager: bool) -> Result<Found, Fault> {
+    let collection = Collection::open(&given.asked.index)?;
+    let phrase = collection.phrase(given.asked.phrase.as_bytes())?;
+    let documents = collection.documents();
+    let counts = documents.summary(&phrase.ranks).map_err(|refused| collection.turned(refused))?;
+    let count = documents.count(&phrase.ranks).map_err(|refused| collection.turned(refused))?;
+    if counts.iter().map(|&count| count as usize).sum::<usize>() != count {
+        return Err(collection
+            .refused("The counts by document do not add up. This is a fault of the program; please report it."));
+    }
+    let with = counts.iter().filter(|&&count| count > 0).count();
+    let closing = format!("{count:>6}  in {with} of {} documents{}", counts.len(), absence(&phrase));
+    let mut out = Output::open(given.tsv, pager);
+    if given.tsv {
+        writeln!(out, "count\tdocument")?;
+    }
+    for (name, count) in collection.names().into_iter().zip(counts).filter(|&(_, count)| given.all || count > 0) {
+        match given.tsv {
+            true => write!(out, "{count}\t")?,
+            false => write!(out, "{count:>6}  ")?,
+        }
+        out.coloured(Colour::Document, name)?;
+        writeln!(out)?;
+    }
+    if !given.tsv {
+        writeln!(out, "{closing}")?;
+    }
+    out.close()?;
+    if given.tsv {
+        eprintln!("{}", closing.trim_start());
+    }
+    Ok(found(count))
+}

@@ -1,0 +1,75 @@
+//! The commands, one in a file.
+mod check;
+mod context;
+mod count;
+mod documents;
+mod explain;
+mod index;
+mod list;
+mod neighbours;
+mod text;
+mod words;
+
+use crate::args::{Arguments, Command};
+use crate::collection::Phrase;
+use crate::fault::Fault;
+use crate::Found;
+use clap::CommandFactory;
+use indicatif::{ProgressBar, ProgressStyle};
+use std::fmt::Write;
+
+/// Runs a command.
+pub fn run(arguments: Arguments) -> Result<Found, Fault> {
+    let pager = !arguments.no_pager;
+    match arguments.command {
+        Command::Index(given) => index::run(&given),
+        Command::Check { index } => check::run(&index),
+        Command::Count { asked } => count::run(&asked),
+        Command::List(given) => list::run(&given, pager),
+        Command::Words(given) => words::run(&given, pager),
+        Command::Documents(given) => documents::run(&given, pager),
+        Command::Neighbours(given) => neighbours::run(&given, pager),
+        Command::Text(given) => text::run(&given, pager),
+        Command::Explain { number } => explain::run(number),
+        Command::Completions { shell } => {
+            clap_complete::generate(shell, &mut Arguments::command(), "concord", &mut std::io::stdout());
+            Ok(Found::Something)
+        }
+    }
+}
+
+/// What is found if something stands so often.
+fn found(count: usize) -> Found {
+    match count {
+        0 => Found::Nothing,
+        _ => Found::Something,
+    }
+}
+
+/// Behind a count of 0: which words of the phrase are in no letter; nothing where all are in some.
+fn absence(phrase: &Phrase) -> String {
+    let mut line = String::new();
+    for (at, word) in phrase.absent.iter().enumerate() {
+        let begins = if at == 0 { "   (no letter has the word" } else { " or" };
+        let _ = write!(line, "{begins} \"{word}\"");
+    }
+    if !line.is_empty() {
+        line.push(')');
+    }
+    line
+}
+
+/// A number and what is counted, in the plural where that is right.
+fn counted(number: usize, what: &str) -> String {
+    format!("{number} {what}{}", if number == 1 { "" } else { "s" })
+}
+
+/// A bar for long work on so many things, shown on a terminal only.
+fn progress(what: &'static str, length: usize) -> ProgressBar {
+    let bar = ProgressBar::new(length as u64);
+    if let Ok(style) = ProgressStyle::with_template("{msg:24} {wide_bar} {percent:>3} %") {
+        bar.set_style(style);
+    }
+    bar.set_message(what);
+    bar
+}

@@ -1,0 +1,133 @@
+//! `concord neighbours`: the words beside a word, by their distance.
+use super::context::contexts;
+use super::{absence, found, progress};
+use crate::args::NeighboursArguments;
+use crate::collection::Collection;
+use crate::fault::Fault;
+use crate::output::Output;
+use crate::Found;
+use concordance::Question;
+use std::cmp::Reverse;
+use std::collections::HashMap;
+use std::io::Write;
+use std::os::unix::ffi::OsStrExt;
+
+/// What the row of all other words is called; no word has parentheses.
+const OTHERS: &str = "(others)";
+
+/// A table: for each neighbour its counts by offset, the sums of all neighbours by offset, and the counts of those that have no row.
+struct Table {
+    offsets: Vec<i32>,
+    rows: Vec<(u32, Vec<usize>)>,
+    others: Vec<usize>,
+}
+
+/// Prints the table of the neighbours of a word.
+pub fn run(given: &NeighboursArguments, pager: bool) -> Result<Found, Fault> {
+    let collection = Collection::open(&given.index)?;
+    let phrase = collection.phrase(given.word.as_bytes())?;
+    let &[word] = &phrase.ranks[..] else {
+        return Err(Fault::about("the phrase", "refused. Neighbours are those of one word; give one word."));
+    };
+    let (table, count) = table(&collection, word, given)?;
+    let mut out = Output::open(given.tsv, pager);
+    match given.tsv {
+        true => print_table(&mut out, &collection, &table)?,
+        false if count == 0 => writeln!(out, "0{}", absence(&phrase))?,
+        false => print_columns(&mut out, &collection, &table)?,
+    }
+    out.close()?;
+    Ok(found(count))
+}
+
+/// The table of a word, and how often the word stands. The words of the rows are found in the contexts, and each number of a row is then asked of the
+/// engine.
+fn table(collection: &Collection, word: u32, given: &NeighboursArguments) -> Result<(Table, usize), Fault> {
+    let documents = collection.documents();
+    let turned = |refused| collection.turned(refused);
+    let span = i32::try_from(given.span).unwrap_or(i32::MAX);
+    documents.ask(&[], Question::neighbours(word, word, span)).map_err(turned)?;
+    let offsets: Vec<i32> = (-span..=span).filter(|&offset| offset != 0).collect();
+    let count = documents.count(&[word]).map_err(turned)?;
+    let places = match documents.pages(&[word], count.max(1)).next() {
+        Some(page) => page.map_err(turned)?.places,
+        None => Vec::new(),
+    };
+
+    let bar = progress("reading the contexts", places.len() * (2 * given.span + 1));
+    let mut counts: HashMap<u32, Vec<usize>> = HashMap::new();
+    let mut sums = vec![0; offsets.len()];
+    for context in contexts(collection, &places, 1, given.span, |done| bar.inc(done as u64))? {
+        let left = context.left.iter().rev().zip((0..given.span).rev());
+        for (&rank, column) in left.chain(context.right.iter().zip(given.span..)) {
+            counts.entry(rank).or_insert_with(|| vec![0; offsets.len()])[column] += 1;
+            sums[column] += 1;
+        }
+    }
+    bar.finish_and_clear();
+
+    let mut rows: Vec<(u32, Vec<usize>)> = counts.into_iter().collect();
+    rows.sort_by_key(|(rank, counts)| (Reverse(counts.iter().sum::<usize>()), *rank));
+    rows.truncate(given.number);
+    compare(collection, word, &offsets, &rows)?;
+    let others = (0..offsets.len()).map(|column| sums[column] - rows.iter().map(|(_, row)| row[column]).sum::<usize>());
+    let others = others.collect();
+    Ok((Table { offsets, rows, others }, count))
+}
+
+/// Asks each number of the rows of the engine, as how often the word has the other at the offset, and refuses where the answer is another.
+fn compare(collection: &Collection, word: u32, offsets: &[i32], rows: &[(u32, Vec<usize>)]) -> Result<(), Fault> {
+    let asked =
+        |&(rank, _): &(u32, Vec<usize>)| offsets.iter().map(move |&offset| Question::neighbours(word, rank, offset));
+    let answers = collection.answers(rows.iter().flat_map(asked), |_| ())?;
+    match rows.iter().flat_map(|(_, counts)| counts.clone()).eq(answers.into_iter().map(|answer| answer as usize)) {
+        true => Ok(()),
+        false => {
+            Err(collection
+                .refused("The contexts and the counts differ. This is a fault of the program; please report it."))
+        }
+    }
+}
+
+/// The words of the rows with their counts, the others last.
+fn named_rows(collection: &Collection, table: &Table) -> Result<Vec<(Vec<u8>, usize, Vec<usize>)>, Fault> {
+    let spellings = collection.spellings();
+    let mut rows = Vec::new();
+    for (rank, counts) in &table.rows {
+        let word = spellings.word(*rank).ok_or_else(|| collection.unspelled())?;
+        rows.push((collection.shown(word).into_owned(), word.len(), counts.clone()));
+    }
+    rows.push((OTHERS.into(), OTHERS.len(), table.others.clone()));
+    Ok(rows)
+}
+
+/// Prints the table in columns.
+fn print_columns(out: &mut Output, collection: &Collection, table: &Table) -> Result<(), Fault> {
+    let rows = named_rows(collection, table)?;
+    let width = rows.iter().map(|(_, width, _)| *width).max().unwrap_or(0);
+    let column =
+        rows.iter().flat_map(|(_, _, counts)| counts).map(|count| count.to_string().len()).max().unwrap_or(0).max(3);
+    out.blanks(width)?;
+    table.offsets.iter().try_for_each(|offset| write!(out, "  {offset:>+column$}"))?;
+    writeln!(out)?;
+    for (word, letters, counts) in rows {
+        out.write_all(&word)?;
+        out.blanks(width - letters)?;
+        counts.iter().try_for_each(|count| write!(out, "  {count:>column$}"))?;
+        writeln!(out)?;
+    }
+    Ok(())
+}
+
+/// Prints the table with tabs.
+fn print_table(out: &mut Output, collection: &Collection, table: &Table) -> Result<(), Fault> {
+    write!(out, "word")?;
+    table.offsets.iter().try_for_each(|offset| write!(out, "\t{offset:+}"))?;
+    writeln!(out)?;
+    for (word, _, counts) in named_rows(collection, table)? {
+        out.write_all(&word)?;
+        counts.iter().try_for_each(|count| write!(out, "\t{count}"))?;
+        writeln!(out)?;
+    }
+    Ok(())
+}

@@ -1,0 +1,47 @@
+//! `concord`: the concordance engine at a scholar's command line. Every count and every place that it prints is an answer of the proved engine; outside it are only
+//! files, spelling, recoding and layout.
+mod args;
+mod collection;
+mod commands;
+mod crc;
+mod fault;
+mod file;
+mod gather;
+mod output;
+mod recode;
+mod spelling;
+
+use args::Arguments;
+use clap::Parser;
+use fault::Fault;
+use std::process::ExitCode;
+use std::thread;
+
+/// The stack of the thread that calls the engine, whose tables lie there: 1.5 MB at the most.
+const STACK: usize = 8 << 20;
+
+/// Whether a command has found what it was asked for.
+pub enum Found {
+    Something,
+    Nothing,
+}
+
+fn main() -> ExitCode {
+    let arguments = Arguments::parse();
+    let run = thread::Builder::new().stack_size(STACK).spawn(move || commands::run(arguments));
+    match run.map(thread::JoinHandle::join) {
+        Ok(Ok(Ok(Found::Something))) => ExitCode::SUCCESS,
+        Ok(Ok(Ok(Found::Nothing))) => ExitCode::from(1),
+        Ok(Ok(Err(Fault::Said(line)))) => refuse(&format!("concord: {line}")),
+        Ok(Ok(Err(Fault::At(line)))) => refuse(&line),
+        Ok(Ok(Err(Fault::Closed))) => ExitCode::from(141),
+        Ok(Err(_)) => ExitCode::from(2),
+        Err(error) => refuse(&format!("concord: no thread could be started: {error}")),
+    }
+}
+
+/// Says why a command is refused.
+fn refuse(line: &str) -> ExitCode {
+    eprintln!("{line}");
+    ExitCode::from(2)
+}

@@ -1,0 +1,208 @@
+//! Words and their ranks: the word list of a text, the spelling of a rank, and where a list breaks a rule.
+use concordance::{make_list_with, Letters, Refusal, Refused};
+use std::cmp::Reverse;
+use std::collections::HashMap;
+
+/// What closes a word of a list.
+const CLOSING: u8 = b'\n';
+
+/// The words of a text, one after another: each run of letters, folded, is handed on.
+pub fn each_word(letters: &Letters, text: &[u8], mut word: impl FnMut(&[u8])) {
+    let mut folded = Vec::new();
+    for &byte in text {
+        match letters.fold(byte) {
+            Some(letter) => folded.push(letter),
+            None if folded.is_empty() => {}
+            None => {
+                word(&folded);
+                folded.clear();
+            }
+        }
+    }
+    if !folded.is_empty() {
+        word(&folded);
+    }
+}
+
+/// The number of words of a text.
+pub fn count_words(letters: &Letters, text: &[u8]) -> usize {
+    let mut words = 0;
+    each_word(letters, text, |_| words += 1);
+    words
+}
+
+/// The word list of a text, by the engine where the text is short enough, and otherwise by [`list_of`]. The first is what reports progress.
+pub fn word_list(
+    letters: &Letters,
+    text: &[u8],
+    parts: &[&[u8]],
+    progress: impl FnMut(usize),
+) -> Result<Vec<u8>, Refused> {
+    match make_list_with(letters, text) {
+        Ok(made) => Ok(made.list),
+        Err(Refused { refusal: Refusal::ListMaking, .. }) => Ok(list_of(letters, parts, progress)),
+        Err(refused) => Err(refused),
+    }
+}
+
+/// The distinct words of the parts of a text, the most frequent first and equally frequent ones by their first appearance, each closed by 0A.
+pub fn list_of(letters: &Letters, parts: &[&[u8]], mut progress: impl FnMut(usize)) -> Vec<u8> {
+    let mut numbers: HashMap<Box<[u8]>, usize> = HashMap::new();
+    let mut counts: Vec<u32> = Vec::new();
+    for part in parts {
+        each_word(letters, part, |word| match numbers.get(word) {
+            Some(&number) => counts[number] += 1,
+            None => {
+                numbers.insert(word.into(), counts.len());
+                counts.push(1);
+            }
+        });
+        progress(part.len());
+    }
+    let mut words: Vec<(&[u8], usize)> = numbers.iter().map(|(word, &number)| (&word[..], number)).collect();
+    words.sort_unstable_by_key(|&(_, number)| (Reverse(counts[number]), number));
+    let mut list = Vec::new();
+    for (word, _) in words {
+        list.extend_from_slice(word);
+        list.push(CLOSING);
+    }
+    list
+}
+
+/// The words of a list by their ranks.
+pub struct Spellings<'a> {
+    list: &'a [u8],
+    /// The byte behind each word.
+    ends: Vec<usize>,
+}
+
+impl<'a> Spellings<'a> {
+    /// The words of a list.
+    pub fn of(list: &'a [u8]) -> Spellings<'a> {
+        let ends = list.iter().enumerate().filter(|(_, &byte)| byte == CLOSING).map(|(at, _)| at).collect();
+        Spellings { list, ends }
+    }
+
+    /// The number of words.
+    pub fn len(&self) -> usize {
+        self.ends.len()
+    }
+
+    /// The word of a rank; none where the list ends before it.
+    pub fn word(&self, rank: u32) -> Option<&'a [u8]> {
+        let rank = rank as usize;
+        let start = if rank == 0 { 0 } else { self.ends.get(rank - 1)? + 1 };
+        self.list.get(start..*self.ends.get(rank)?)
+    }
+}
+
+/// The first line of a word list that breaks a rule, from 1 on, and which.
+pub fn broken_line(letters: &Letters, list: &[u8]) -> Option<(usize, String)> {
+    let mut lines: HashMap<&[u8], usize> = HashMap::new();
+    for (at, word) in list.split_inclusive(|&byte| byte == CLOSING).enumerate() {
+        let line = at + 1;
+        let Some(word) = word.strip_suffix(&[CLOSING]) else {
+            return Some((line, "the line is not closed".to_owned()));
+        };
+        if word.is_empty() {
+            return Some((line, "the line is empty".to_owned()));
+        }
+        if let Some(&byte) = word.iter().find(|&&byte| byte == 0 || letters.fold(byte) != Some(byte)) {
+            let why = match letters.fold(byte) {
+                Some(_) => "is folded to another letter",
+                None => "is no letter",
+            };
+            return Some((line, format!("the byte {byte:02X} {why}")));
+        }
+        if let Some(earlier) = lines.insert(word, line) {
+            return Some((line, format!("the word stands in line {earlier} already")));
+        }
+    }
+    None
+}
+
+/// A word as dictionaries order it: by its letters without their accents, and where these are equal by its bytes.
+pub fn dictionary_key(word: &[u8]) -> (Vec<u8>, &[u8]) {
+    let mut plain = Vec::with_capacity(word.len());
+    for &byte in word {
+        plain.extend_from_slice(match byte {
+            0xE0..=0xE5 => b"a",
+            0xE6 => b"ae",
+            0xE7 => b"c",
+            0xE8..=0xEB => b"e",
+            0xEC..=0xEF => b"i",
+            0xF0 => b"d",
+            0xF1 => b"n",
+            0xF2..=0xF6 | 0xF8 => b"o",
+            0xF9..=0xFC => b"u",
+            0xFD | 0xFF => b"y",
+            0xFE => b"th",
+            0xDF => b"ss",
+            _ => std::slice::from_ref(&byte),
+        });
+    }
+    (plain, word)
+}
+
+#[cfg(test)]
+mod tests {
+    use super::*;
+    use concordance::make_list;
+
+    /// Texts of a few letters, so that words recur and have equal frequencies.
+    fn small_texts() -> impl Iterator<Item = Vec<u8>> {
+        let mut state = 7u64;
+        (0..400).map(move |length| {
+            let mut draw = || {
+                state = state.wrapping_mul(6364136223846793005).wrapping_add(1442695040888963407);
+                b"abAB \xE4\xC4-\nz"[(state >> 33) as usize % 10]
+            };
+            (0..length).map(|_| draw()).collect()
+        })
+    }
+
+    #[test]
+    fn makes_the_list_that_the_engine_makes() {
+        let letters = Letters::built_in();
+        for text in small_texts() {
+            let made = make_list(&text).unwrap();
+            assert_eq!(list_of(&letters, &[&text], |_| ()), made.list);
+            assert_eq!(count_words(&letters, &text), made.ranks.len());
+        }
+    }
+
+    #[test]
+    fn spells_the_ranks_of_a_list() {
+        let spellings = Spellings::of(b"the\nof\n\xE9t\xE9\n");
+        let words: Vec<_> = (0..4).map(|rank| spellings.word(rank)).collect();
+        assert_eq!(words, [Some(&b"the"[..]), Some(b"of"), Some(b"\xE9t\xE9"), None]);
+        assert_eq!(Spellings::of(b"").word(0), None);
+    }
+
+    #[test]
+    fn finds_the_line_that_the_engine_refuses() {
+        let letters = Letters::built_in();
+        let lists: [(&[u8], Option<usize>); 7] = [
+            (b"a\nb\n", None),
+            (b"a\nb", Some(2)),
+            (b"a\n\nb\n", Some(2)),
+            (b"a\nB\n", Some(2)),
+            (b"a\nb-c\n", Some(2)),
+            (b"a\nb\na\n", Some(3)),
+            (b"\0\n", Some(1)),
+        ];
+        for (list, line) in lists {
+            assert_eq!(broken_line(&letters, list).map(|(line, _)| line), line);
+            let refused = concordance::read_text(list, b"").err().map(|refused| refused.refusal);
+            let vocabulary = list.iter().filter(|&&byte| byte == b'\n').count();
+            assert_eq!(refused, line.map(|_| Refusal::WordList).filter(|_| vocabulary > 0));
+        }
+    }
+
+    #[test]
+    fn orders_words_as_dictionaries_do() {
+        let mut words: Vec<&[u8]> = vec![b"zoo", b"\xE9t\xE9", b"etage", b"ete", b"stra\xDFe", b"strasse"];
+        words.sort_by_key(|word| dictionary_key(word));
+        assert_eq!(words, [&b"etage"[..], b"ete", b"\xE9t\xE9", b"strasse", b"stra\xDFe", b"zoo"]);
+    }
+}
