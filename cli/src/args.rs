@@ -3,12 +3,16 @@ use clap::{Args, Parser, Subcommand, ValueEnum};
 use std::ffi::OsString;
 use std::path::PathBuf;
 
+/// What is said behind the commands.
+const NOTES: &str = "\
+Every count and every place that is printed is an answer of an engine that is proved to be right. Upper case and punctuation do not \
+matter. A phrase counts only where all its words stand in one document. Places count the words of all documents, from 0 on.
+
+Exit status: 0, or 1 if nothing was found, or 2 if the command was refused.";
+
 /// A concordance of a folder of letters that cannot miss a line.
-///
-/// Every number that a command prints is an answer of an engine that is proved to be right. Upper case and punctuation do not matter, and a phrase counts only
-/// where all its words stand in one letter.
 #[derive(Parser)]
-#[command(version, after_help = "Exit status: 0, or 1 if nothing was found, or 2 if the command was refused.")]
+#[command(version, after_help = NOTES)]
 pub struct Arguments {
     #[command(subcommand)]
     pub command: Command,

@@ -1,12 +1,15 @@
 //! An index file that is opened: the text behind it, its word list, its documents, and phrases that are typed.
-use crate::fault::Fault;
+use crate::fault::{Fault, Turned};
 use crate::file::{names_of, Broken, Contents, IndexFile};
 use crate::recode::Recoding;
 use crate::spelling::Spellings;
 use concordance::{find_word_with, read_text_with, Documents, Letters, Question, Refusal, Refused};
 use std::borrow::Cow;
+use std::ffi::OsStr;
 use std::fmt::Display;
+use std::os::unix::ffi::OsStrExt;
 use std::path::Path;
+use std::thread;
 
 /// How many questions are asked at a time: the check is made once for each time.
 const SHEET: usize = 1 << 20;
@@ -42,10 +45,23 @@ impl Default for TypedWord {
 impl Collection {
     /// Opens a file: tries what can be tried without the engine, the checksum too, and the letter table.
     pub fn open(path: &Path) -> Result<Collection, Fault> {
-        let refused = |broken: Broken| Fault::about(path.display(), broken);
         let collection = Collection::read(path)?;
-        collection.file.try_checksum().map_err(refused)?;
+        collection.try_checksum().map_err(|broken| Fault::about(path.display(), broken))?;
         Ok(collection)
+    }
+
+    /// Opens a file as [`Collection::open`] and reads a typed phrase, at the same time as the checksum is made; that is what is said first.
+    pub fn ask(path: &Path, typed: &OsStr) -> Result<(Collection, Phrase), Fault> {
+        let collection = Collection::read(path)?;
+        let phrase = thread::scope(|scope| {
+            let checksum = scope.spawn(|| collection.try_checksum());
+            let phrase = collection.phrase(typed.as_bytes());
+            match checksum.join() {
+                Ok(tried) => tried.map_err(|broken| Fault::about(path.display(), broken)).and(phrase),
+                Err(_) => Err(Fault::about(path.display(), "the checksum could not be made")),
+            }
+        })?;
+        Ok((collection, phrase))
     }
 
     /// Reads a file as [`Collection::open`], without its checksum.
@@ -100,9 +116,14 @@ impl Collection {
         self.recoding.shown(word)
     }
 
-    /// A refusal of the engine that is about this file.
+    /// A refusal of the engine that is about this file, or about what was asked.
     pub fn turned(&self, refused: Refused) -> Fault {
-        Fault::engine(&self.name, refused)
+        match refused.refusal {
+            Refusal::Phrase | Refusal::Offset | Refusal::Place | Refusal::Page => {
+                Fault::Said(Turned(refused.refusal).to_string())
+            }
+            _ => Fault::engine(&self.name, refused),
+        }
     }
 
     /// Another refusal that is about this file.
@@ -142,7 +163,7 @@ impl Collection {
     }
 
     /// Reads a typed phrase. Its words are found by the engine, all in one call where all are in the list.
-    pub fn phrase(&self, typed: &[u8]) -> Result<Phrase, Fault> {
+    fn phrase(&self, typed: &[u8]) -> Result<Phrase, Fault> {
         if typed.contains(&b'*') {
             let why = "refused. The sign * is kept for open words, which this version does not have; leave it out.";
             return Err(Fault::about("the phrase", why));

@@ -86,7 +86,7 @@ pub fn in_plain_words(refusal: Refusal) -> &'static str {
             "There is no such kind of question. This is a fault of the program and not of the letters; please report it."
         }
         Refusal::Phrase => {
-            "A phrase has at most 16 words, and a count by document needs at least one; ask for a part of the phrase."
+            "A phrase has at most 16 words, and a count by document is given of one word or more; ask for a part of the phrase, or for a word."
         }
         Refusal::AskedRank => {
             "The word list has more words than the index has room for; take the file from a copy, or index the letters again."

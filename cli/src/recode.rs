@@ -73,6 +73,7 @@ impl Recoding {
                 return Err(refused("the letter is replaced in an earlier line already"));
             }
         }
+        add_other_case(&mut replacements);
         Ok(Recoding::Latin(replacements))
     }
 
@@ -167,6 +168,19 @@ impl Recoding {
         match self {
             Recoding::Latin(_) if !bytes.is_ascii() => Cow::Owned(latin(bytes).into_bytes()),
             _ => Cow::Borrowed(bytes),
+        }
+    }
+}
+
+/// Adds to replaced letters above U+00FF the same letters in the other case, where nothing is said of these.
+fn add_other_case(replacements: &mut HashMap<char, Vec<u8>>) {
+    let given: Vec<(char, Vec<u8>)> = replacements.iter().map(|(&letter, bytes)| (letter, bytes.clone())).collect();
+    for (letter, bytes) in given {
+        for other in letter.to_lowercase().chain(letter.to_uppercase()) {
+            let is_one = letter.to_lowercase().count() == 1 && letter.to_uppercase().count() == 1;
+            if is_one && other > '\u{FF}' {
+                replacements.entry(other).or_insert_with(|| bytes.clone());
+            }
         }
     }
 }
@@ -305,8 +319,9 @@ mod tests {
 
     #[test]
     fn replaces_letters_and_keeps_the_replacements() {
-        let recoding = Recoding::read("œ oe\n\nŁ L\nł l\n".as_bytes()).unwrap();
-        assert_eq!(put(&recoding, "cœur Łódź".replace('ź', "z").as_bytes()).unwrap(), b"coeur L\xF3dz");
+        let recoding = Recoding::read("œ oe\n\nŁ L\nÿ y\n".as_bytes()).unwrap();
+        assert_eq!(put(&recoding, "cœur Œ Łłÿ".as_bytes()).unwrap(), b"coeur oe LLy");
+        assert!(put(&recoding, "Ÿ".as_bytes()).is_ok_and(|bytes| bytes == b"y"));
         assert_eq!(Recoding::read(recoding.lines().as_bytes()), Ok(recoding));
         for (lines, line) in [("œoe", 1), ("ł l\nł w", 2), ("é e\na b", 2), ("ж ж", 1)] {
             assert_eq!(Recoding::read(lines.as_bytes()).unwrap_err().line, line, "{lines}");

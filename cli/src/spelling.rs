@@ -1,7 +1,8 @@
 //! Words and their ranks: the word list of a text, the spelling of a rank, and where a list breaks a rule.
-use concordance::{make_list_with, Letters, Refusal, Refused};
+use concordance::{make_list_with, Letters, Refusal, Refused, MAX_LIST_TEXT};
 use std::cmp::Reverse;
 use std::collections::HashMap;
+use std::hash::{BuildHasherDefault, Hasher};
 
 /// What closes a word of a list.
 const CLOSING: u8 = b'\n';
@@ -24,20 +25,27 @@ pub fn each_word(letters: &Letters, text: &[u8], mut word: impl FnMut(&[u8])) {
     }
 }
 
-/// The number of words of a text.
+/// The number of words of a text: how often a letter stands behind no letter.
 pub fn count_words(letters: &Letters, text: &[u8]) -> usize {
-    let mut words = 0;
-    each_word(letters, text, |_| words += 1);
+    let (mut words, mut inside) = (0, false);
+    for &byte in text {
+        let is_letter = letters.fold(byte).is_some();
+        words += usize::from(is_letter & !inside);
+        inside = is_letter;
+    }
     words
 }
 
-/// The word list of a text, by the engine where the text is short enough, and otherwise by [`list_of`]. The first is what reports progress.
+/// The word list of a text that is made of parts: by the engine where it takes the text, and otherwise by [`list_of`], which reports its progress in bytes.
 pub fn word_list(
     letters: &Letters,
     text: &[u8],
     parts: &[&[u8]],
     progress: impl FnMut(usize),
 ) -> Result<Vec<u8>, Refused> {
+    if text.len() > MAX_LIST_TEXT {
+        return Ok(list_of(letters, parts, progress));
+    }
     match make_list_with(letters, text) {
         Ok(made) => Ok(made.list),
         Err(Refused { refusal: Refusal::ListMaking, .. }) => Ok(list_of(letters, parts, progress)),
@@ -45,9 +53,30 @@ pub fn word_list(
     }
 }
 
+/// A hash of a word, eight bytes at a time: quick, and good enough for words.
+#[derive(Default)]
+struct WordHasher(u64);
+
+impl Hasher for WordHasher {
+    fn write(&mut self, bytes: &[u8]) {
+        for part in bytes.chunks(8) {
+            let eight = part.iter().rev().fold(0, |eight, &byte| eight << 8 | u64::from(byte));
+            self.0 = (self.0.rotate_left(5) ^ eight).wrapping_mul(0x517C_C1B7_2722_0A95);
+        }
+    }
+
+    fn write_usize(&mut self, number: usize) {
+        self.0 ^= number as u64;
+    }
+
+    fn finish(&self) -> u64 {
+        self.0 ^ self.0 >> 32
+    }
+}
+
 /// The distinct words of the parts of a text, the most frequent first and equally frequent ones by their first appearance, each closed by 0A.
 pub fn list_of(letters: &Letters, parts: &[&[u8]], mut progress: impl FnMut(usize)) -> Vec<u8> {
-    let mut numbers: HashMap<Box<[u8]>, usize> = HashMap::new();
+    let mut numbers: HashMap<Box<[u8]>, usize, BuildHasherDefault<WordHasher>> = HashMap::default();
     let mut counts: Vec<u32> = Vec::new();
     for part in parts {
         each_word(letters, part, |word| match numbers.get(word) {

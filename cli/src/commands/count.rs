@@ -6,12 +6,10 @@ use crate::fault::Fault;
 use crate::output::Output;
 use crate::Found;
 use std::io::Write;
-use std::os::unix::ffi::OsStrExt;
 
 /// Prints the count of a phrase.
 pub fn run(asked: &Asked) -> Result<Found, Fault> {
-    let collection = Collection::open(&asked.index)?;
-    let phrase = collection.phrase(asked.phrase.as_bytes())?;
+    let (collection, phrase) = Collection::ask(&asked.index, &asked.phrase)?;
     let count = collection.documents().count(&phrase.ranks).map_err(|refused| collection.turned(refused))?;
     let mut out = Output::open(false, false);
     writeln!(out, "{count}{}", absence(&phrase))?;

@@ -6,12 +6,10 @@ use crate::fault::Fault;
 use crate::output::{Colour, Output};
 use crate::Found;
 use std::io::Write;
-use std::os::unix::ffi::OsStrExt;
 
 /// Prints the count of a phrase by document, and their sum, which is the count of the phrase.
 pub fn run(given: &DocumentsArguments, pager: bool) -> Result<Found, Fault> {
-    let collection = Collection::open(&given.asked.index)?;
-    let phrase = collection.phrase(given.asked.phrase.as_bytes())?;
+    let (collection, phrase) = Collection::ask(&given.asked.index, &given.asked.phrase)?;
     let documents = collection.documents();
     let counts = documents.summary(&phrase.ranks).map_err(|refused| collection.turned(refused))?;
     let count = documents.count(&phrase.ranks).map_err(|refused| collection.turned(refused))?;

@@ -10,7 +10,6 @@ use crate::Found;
 use concordance::Listing;
 use std::collections::HashMap;
 use std::io::Write;
-use std::os::unix::ffi::OsStrExt;
 
 /// The lines of a page where none are asked for.
 const LINES: usize = 20;
@@ -23,8 +22,7 @@ struct Lines {
 
 /// Prints a page of the listing of a phrase, or all its lines sorted.
 pub fn run(given: &ListArguments, pager: bool) -> Result<Found, Fault> {
-    let collection = Collection::open(&given.asked.index)?;
-    let phrase = collection.phrase(given.asked.phrase.as_bytes())?;
+    let (collection, phrase) = Collection::ask(&given.asked.index, &given.asked.phrase)?;
     let count = collection.documents().count(&phrase.ranks).map_err(|refused| collection.turned(refused))?;
     let lines = match given.sort {
         Some(side) => sorted(&collection, &phrase, count, given, side)?,
@@ -69,16 +67,24 @@ fn page(collection: &Collection, phrase: &Phrase, count: usize, given: &ListArgu
         0 => 0,
         _ => places(collection, phrase, 0, count.max(1))?.0.partition_point(|&place| (place as usize) < next),
     };
-    let closing = match (here.len(), after) {
-        (0, _) if count == 0 => format!("0{}", absence(phrase)),
-        (0, _) => format!("no line of {count} from place {next} on"),
-        (lines, None) => format!("lines {} to {} of {count}", before + 1, before + lines),
-        (lines, Some(after)) => {
-            format!("lines {} to {} of {count}; next page: --next {after}", before + 1, before + lines)
+    let closing = match here.len() {
+        0 if count == 0 => format!("0{}", absence(phrase)),
+        0 => format!("no line of {count} from place {next} on"),
+        lines => {
+            let after = after.map_or(String::new(), |after| format!("; next page: --next {after}"));
+            format!("{} of {count}{after}", numbered(before + 1, before + lines))
         }
     };
     let contexts = contexts(collection, &here, phrase.ranks.len(), given.words, |_| ())?;
     Ok(Lines { contexts, closing })
+}
+
+/// The numbers of lines.
+fn numbered(first: usize, last: usize) -> String {
+    match first == last {
+        true => format!("line {first}"),
+        false => format!("lines {first} to {last}"),
+    }
 }
 
 /// All lines, or the first of them, sorted by the words on a side, from the nearest on; equal ones by their places.
@@ -89,8 +95,8 @@ fn sorted(
     given: &ListArguments,
     side: Side,
 ) -> Result<Lines, Fault> {
-    let asked = given.lines.unwrap_or(count);
-    let (here, _) = places(collection, phrase, 0, count.max(asked.min(1)))?;
+    let asked = given.lines.unwrap_or(count.max(1));
+    let (here, _) = places(collection, phrase, 0, if asked == 0 { 0 } else { count.max(1) })?;
     let bar = progress("reading the contexts", here.len() * (phrase.ranks.len() + 2 * given.words));
     let mut contexts = contexts(collection, &here, phrase.ranks.len(), given.words, |done| bar.inc(done as u64))?;
     bar.finish_and_clear();
@@ -102,7 +108,7 @@ fn sorted(
     contexts.truncate(asked);
     let closing = match contexts.len() {
         0 => format!("0{}", absence(phrase)),
-        lines => format!("lines 1 to {lines} of {count}, sorted"),
+        lines => format!("{} of {count}, sorted", numbered(1, lines)),
     };
     Ok(Lines { contexts, closing })
 }

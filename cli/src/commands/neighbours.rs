@@ -10,7 +10,6 @@ use concordance::Question;
 use std::cmp::Reverse;
 use std::collections::HashMap;
 use std::io::Write;
-use std::os::unix::ffi::OsStrExt;
 
 /// What the row of all other words is called; no word has parentheses.
 const OTHERS: &str = "(others)";
@@ -24,8 +23,7 @@ struct Table {
 
 /// Prints the table of the neighbours of a word.
 pub fn run(given: &NeighboursArguments, pager: bool) -> Result<Found, Fault> {
-    let collection = Collection::open(&given.index)?;
-    let phrase = collection.phrase(given.word.as_bytes())?;
+    let (collection, phrase) = Collection::ask(&given.index, &given.word)?;
     let &[word] = &phrase.ranks[..] else {
         return Err(Fault::about("the phrase", "refused. Neighbours are those of one word; give one word."));
     };

@@ -24,8 +24,9 @@ pub fn run(given: &WordsArguments, pager: bool) -> Result<Found, Fault> {
     ranked.truncate(if given.all { different } else { given.number });
     let listed: usize = ranked.iter().map(|&(_, count)| count as usize).sum();
     let closing = format!(
-        "{} of {different} different; the others stand {} of {total} times",
-        counted(ranked.len(), "word"),
+        "{} of {}; the others make up {} of {total} words",
+        ranked.len(),
+        counted(different, "different word"),
         total - listed
     );
 
