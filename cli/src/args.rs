@@ -158,8 +158,8 @@ pub struct NeighboursArguments {
     /// The word
     pub word: OsString,
     /// How far the neighbours stand from it at most, 1 to 16
-    #[arg(long, value_name = "WORDS", default_value_t = 2)]
-    pub span: usize,
+    #[arg(long, value_name = "WORDS", default_value_t = 2, value_parser = clap::value_parser!(u32).range(1..))]
+    pub span: u32,
     /// How many neighbours are listed
     #[arg(short = 'n', long, value_name = "WORDS", default_value_t = 10)]
     pub number: usize,

@@ -2,7 +2,7 @@
 use crate::fault::{Fault, Turned};
 use crate::file::{names_of, Broken, Contents, IndexFile};
 use crate::recode::Recoding;
-use crate::spelling::Spellings;
+use crate::spelling::{broken_line, Spellings};
 use concordance::{find_word_with, read_text_with, Documents, Letters, Question, Refusal, Refused};
 use std::borrow::Cow;
 use std::ffi::OsStr;
@@ -122,6 +122,10 @@ impl Collection {
             Refusal::Phrase | Refusal::Offset | Refusal::Place | Refusal::Page => {
                 Fault::Said(Turned(refused.refusal).to_string())
             }
+            Refusal::WordList => match broken_line(&self.letters, self.contents().list) {
+                Some((line, why)) => self.refused(format_args!("In line {line} of its word list {why}. [13]")),
+                None => Fault::engine(&self.name, refused),
+            },
             _ => Fault::engine(&self.name, refused),
         }
     }
@@ -139,8 +143,9 @@ impl Collection {
     }
 
     /// Tries the word list by reading a text of no words.
-    pub fn try_list(&self) -> Result<(), Refused> {
-        read_text_with(&self.letters, self.contents().list, b"").map(|_| ())
+    pub fn try_list(&self) -> Result<(), Fault> {
+        let tried = read_text_with(&self.letters, self.contents().list, b"");
+        tried.map(|_| ()).map_err(|refused| self.turned(refused))
     }
 
     /// The answers to questions of the index, in their order; in several sheets where they are many, and a refusal where one question is refused.
@@ -184,6 +189,7 @@ impl Collection {
     fn words_one_by_one(&self, words: Vec<TypedWord>) -> Result<Phrase, Fault> {
         let list = self.contents().list;
         let known = self.spellings().len() as u32;
+        self.try_list()?;
         let mut phrase = Phrase { ranks: Vec::new(), absent: Vec::new() };
         for word in words {
             let rank = match &word.letters {

@@ -97,7 +97,8 @@ fn sorted(
 ) -> Result<Lines, Fault> {
     let asked = given.lines.unwrap_or(count.max(1));
     let (here, _) = places(collection, phrase, 0, if asked == 0 { 0 } else { count.max(1) })?;
-    let bar = progress("reading the contexts", here.len() * (phrase.ranks.len() + 2 * given.words));
+    let reach = given.words.saturating_mul(2).saturating_add(phrase.ranks.len());
+    let bar = progress("reading the contexts", here.len().saturating_mul(reach));
     let mut contexts = contexts(collection, &here, phrase.ranks.len(), given.words, |done| bar.inc(done as u64))?;
     bar.finish_and_clear();
     let order = dictionary_order(collection, &contexts, side)?;

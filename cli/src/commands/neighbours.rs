@@ -43,21 +43,22 @@ pub fn run(given: &NeighboursArguments, pager: bool) -> Result<Found, Fault> {
 fn table(collection: &Collection, word: u32, given: &NeighboursArguments) -> Result<(Table, usize), Fault> {
     let documents = collection.documents();
     let turned = |refused| collection.turned(refused);
-    let span = i32::try_from(given.span).unwrap_or(i32::MAX);
-    documents.ask(&[], Question::neighbours(word, word, span)).map_err(turned)?;
-    let offsets: Vec<i32> = (-span..=span).filter(|&offset| offset != 0).collect();
+    let farthest = i32::try_from(given.span).unwrap_or(i32::MAX);
+    documents.ask(&[], Question::neighbours(word, word, farthest)).map_err(turned)?;
+    let offsets: Vec<i32> = (-farthest..=farthest).filter(|&offset| offset != 0).collect();
+    let span = given.span as usize;
     let count = documents.count(&[word]).map_err(turned)?;
     let places = match documents.pages(&[word], count.max(1)).next() {
         Some(page) => page.map_err(turned)?.places,
         None => Vec::new(),
     };
 
-    let bar = progress("reading the contexts", places.len() * (2 * given.span + 1));
+    let bar = progress("reading the contexts", places.len() * (2 * span + 1));
     let mut counts: HashMap<u32, Vec<usize>> = HashMap::new();
     let mut sums = vec![0; offsets.len()];
-    for context in contexts(collection, &places, 1, given.span, |done| bar.inc(done as u64))? {
-        let left = context.left.iter().rev().zip((0..given.span).rev());
-        for (&rank, column) in left.chain(context.right.iter().zip(given.span..)) {
+    for context in contexts(collection, &places, 1, span, |done| bar.inc(done as u64))? {
+        let left = context.left.iter().rev().zip((0..span).rev());
+        for (&rank, column) in left.chain(context.right.iter().zip(span..)) {
             counts.entry(rank).or_insert_with(|| vec![0; offsets.len()])[column] += 1;
             sums[column] += 1;
         }
@@ -87,31 +88,38 @@ fn compare(collection: &Collection, word: u32, offsets: &[i32], rows: &[(u32, Ve
     }
 }
 
-/// The words of the rows with their counts, the others last.
-fn named_rows(collection: &Collection, table: &Table) -> Result<Vec<(Vec<u8>, usize, Vec<usize>)>, Fault> {
+/// A row as it is printed: a word, how many letters it has, and its counts.
+struct Row<'a> {
+    word: Vec<u8>,
+    letters: usize,
+    counts: &'a [usize],
+}
+
+/// The rows as they are printed, the others last.
+fn printed_rows<'a>(collection: &Collection, table: &'a Table) -> Result<Vec<Row<'a>>, Fault> {
     let spellings = collection.spellings();
     let mut rows = Vec::new();
     for (rank, counts) in &table.rows {
         let word = spellings.word(*rank).ok_or_else(|| collection.unspelled())?;
-        rows.push((collection.shown(word).into_owned(), word.len(), counts.clone()));
+        rows.push(Row { word: collection.shown(word).into_owned(), letters: word.len(), counts });
     }
-    rows.push((OTHERS.into(), OTHERS.len(), table.others.clone()));
+    rows.push(Row { word: OTHERS.into(), letters: OTHERS.len(), counts: &table.others });
     Ok(rows)
 }
 
 /// Prints the table in columns.
 fn print_columns(out: &mut Output, collection: &Collection, table: &Table) -> Result<(), Fault> {
-    let rows = named_rows(collection, table)?;
-    let width = rows.iter().map(|(_, width, _)| *width).max().unwrap_or(0);
-    let column =
-        rows.iter().flat_map(|(_, _, counts)| counts).map(|count| count.to_string().len()).max().unwrap_or(0).max(3);
+    let rows = printed_rows(collection, table)?;
+    let width = rows.iter().map(|row| row.letters).max().unwrap_or(0);
+    let numbers = rows.iter().flat_map(|row| row.counts);
+    let column = numbers.map(|count| count.to_string().len()).max().unwrap_or(0).max(3);
     out.blanks(width)?;
     table.offsets.iter().try_for_each(|offset| write!(out, "  {offset:>+column$}"))?;
     writeln!(out)?;
-    for (word, letters, counts) in rows {
-        out.write_all(&word)?;
-        out.blanks(width - letters)?;
-        counts.iter().try_for_each(|count| write!(out, "  {count:>column$}"))?;
+    for row in rows {
+        out.write_all(&row.word)?;
+        out.blanks(width - row.letters)?;
+        row.counts.iter().try_for_each(|count| write!(out, "  {count:>column$}"))?;
         writeln!(out)?;
     }
     Ok(())
@@ -122,9 +130,9 @@ fn print_table(out: &mut Output, collection: &Collection, table: &Table) -> Resu
     write!(out, "word")?;
     table.offsets.iter().try_for_each(|offset| write!(out, "\t{offset:+}"))?;
     writeln!(out)?;
-    for (word, _, counts) in named_rows(collection, table)? {
-        out.write_all(&word)?;
-        counts.iter().try_for_each(|count| write!(out, "\t{count}"))?;
+    for row in printed_rows(collection, table)? {
+        out.write_all(&row.word)?;
+        row.counts.iter().try_for_each(|count| write!(out, "\t{count}"))?;
         writeln!(out)?;
     }
     Ok(())

@@ -33,6 +33,7 @@ pub fn run(given: &TextArguments, pager: bool) -> Result<Found, Fault> {
     let collection = Collection::open(&given.index)?;
     let documents = collection.documents();
     documents.answer_sheet(&[], &[]).map_err(|refused| collection.turned(refused))?;
+    collection.try_list()?;
     let names = collection.names();
     let chosen: Vec<usize> = match &given.document {
         None => (0..names.len()).collect(),

@@ -12,7 +12,7 @@ use std::io::Write;
 /// Prints the most frequent words, equally frequent ones in the order of the list, and how much of the text the others are.
 pub fn run(given: &WordsArguments, pager: bool) -> Result<Found, Fault> {
     let collection = Collection::open(&given.index)?;
-    collection.try_list().map_err(|refused| collection.turned(refused))?;
+    collection.try_list()?;
     let frequencies = frequencies(&collection)?;
     let total: usize = frequencies.iter().map(|&count| count as usize).sum();
     if total != collection.documents().words() {
