@@ -42,6 +42,18 @@ impl Default for TypedWord {
     }
 }
 
+/// What two pieces of work give that are done at the same time, the first on a thread of its own.
+pub fn both<A: Send, B>(there: impl FnOnce() -> A + Send, here: impl FnOnce() -> B) -> (A, B) {
+    thread::scope(|scope| {
+        let there = scope.spawn(there);
+        let here = here();
+        match there.join() {
+            Ok(there) => (there, here),
+            Err(panic) => std::panic::resume_unwind(panic),
+        }
+    })
+}
+
 impl Collection {
     /// Opens a file: tries what can be tried without the engine, the checksum too, and the letter table.
     pub fn open(path: &Path) -> Result<Collection, Fault> {
@@ -53,14 +65,9 @@ impl Collection {
     /// Opens a file as [`Collection::open`] and reads a typed phrase, at the same time as the checksum is made; that is what is said first.
     pub fn ask(path: &Path, typed: &OsStr) -> Result<(Collection, Phrase), Fault> {
         let collection = Collection::read(path)?;
-        let phrase = thread::scope(|scope| {
-            let checksum = scope.spawn(|| collection.try_checksum());
-            let phrase = collection.phrase(typed.as_bytes());
-            match checksum.join() {
-                Ok(tried) => tried.map_err(|broken| Fault::about(path.display(), broken)).and(phrase),
-                Err(_) => Err(Fault::about(path.display(), "the checksum could not be made")),
-            }
-        })?;
+        let (checksum, phrase) = both(|| collection.try_checksum(), || collection.phrase(typed.as_bytes()));
+        checksum.map_err(|broken| Fault::about(path.display(), broken))?;
+        let phrase = phrase?;
         Ok((collection, phrase))
     }
 
@@ -99,6 +106,11 @@ impl Collection {
     /// V, which as a rank that is asked about is an absent word.
     fn absent(&self) -> u32 {
         self.contents().shape.vocabulary as u32
+    }
+
+    /// How often a phrase stands.
+    pub fn count(&self, phrase: &Phrase) -> Result<usize, Fault> {
+        self.documents().count(&phrase.ranks).map_err(|refused| self.turned(refused))
     }
 
     /// The names of the documents.

@@ -1,7 +1,7 @@
 //! `concord documents`: how often a phrase stands in each document.
 use super::{absence, found};
 use crate::args::DocumentsArguments;
-use crate::collection::Collection;
+use crate::collection::{both, Collection};
 use crate::fault::Fault;
 use crate::output::{Colour, Output};
 use crate::Found;
@@ -10,9 +10,9 @@ use std::io::Write;
 /// Prints the count of a phrase by document, and their sum, which is the count of the phrase.
 pub fn run(given: &DocumentsArguments, pager: bool) -> Result<Found, Fault> {
     let (collection, phrase) = Collection::ask(&given.asked.index, &given.asked.phrase)?;
-    let documents = collection.documents();
-    let counts = documents.summary(&phrase.ranks).map_err(|refused| collection.turned(refused))?;
-    let count = documents.count(&phrase.ranks).map_err(|refused| collection.turned(refused))?;
+    let (count, counts) = both(|| collection.count(&phrase), || collection.documents().summary(&phrase.ranks));
+    let counts = counts.map_err(|refused| collection.turned(refused))?;
+    let count = count?;
     if counts.iter().map(|&count| count as usize).sum::<usize>() != count {
         return Err(collection
             .refused("The counts by document do not add up. This is a fault of the program; please report it."));

@@ -2,7 +2,7 @@
 use super::context::{contexts, Context};
 use super::{absence, found, progress};
 use crate::args::{ListArguments, Side};
-use crate::collection::{Collection, Phrase};
+use crate::collection::{both, Collection, Phrase};
 use crate::fault::Fault;
 use crate::output::{Colour, Output};
 use crate::spelling::{dictionary_key, Spellings};
@@ -23,10 +23,9 @@ struct Lines {
 /// Prints a page of the listing of a phrase, or all its lines sorted.
 pub fn run(given: &ListArguments, pager: bool) -> Result<Found, Fault> {
     let (collection, phrase) = Collection::ask(&given.asked.index, &given.asked.phrase)?;
-    let count = collection.documents().count(&phrase.ranks).map_err(|refused| collection.turned(refused))?;
     let lines = match given.sort {
-        Some(side) => sorted(&collection, &phrase, count, given, side)?,
-        None => page(&collection, &phrase, count, given)?,
+        Some(side) => sorted(&collection, &phrase, given, side)?,
+        None => page(&collection, &phrase, given)?,
     };
     let printer = Printer { collection: &collection, spellings: collection.spellings(), names: collection.names() };
     let mut out = Output::open(given.tsv, pager);
@@ -59,10 +58,13 @@ fn places(
     }
 }
 
-/// A page of the listing.
-fn page(collection: &Collection, phrase: &Phrase, count: usize, given: &ListArguments) -> Result<Lines, Fault> {
+/// A page of the listing. The phrase is counted at the same time.
+fn page(collection: &Collection, phrase: &Phrase, given: &ListArguments) -> Result<Lines, Fault> {
     let next = given.next.unwrap_or(0);
-    let (here, after) = places(collection, phrase, next, given.lines.unwrap_or(LINES))?;
+    let lines = given.lines.unwrap_or(LINES);
+    let (count, page) = both(|| collection.count(phrase), || places(collection, phrase, next, lines));
+    let count = count?;
+    let (here, after) = page?;
     let before = match next {
         0 => 0,
         _ => places(collection, phrase, 0, count.max(1))?.0.partition_point(|&place| (place as usize) < next),
@@ -88,13 +90,8 @@ fn numbered(first: usize, last: usize) -> String {
 }
 
 /// All lines, or the first of them, sorted by the words on a side, from the nearest on; equal ones by their places.
-fn sorted(
-    collection: &Collection,
-    phrase: &Phrase,
-    count: usize,
-    given: &ListArguments,
-    side: Side,
-) -> Result<Lines, Fault> {
+fn sorted(collection: &Collection, phrase: &Phrase, given: &ListArguments, side: Side) -> Result<Lines, Fault> {
+    let count = collection.count(phrase)?;
     let asked = given.lines.unwrap_or(count.max(1));
     let (here, _) = places(collection, phrase, 0, if asked == 0 { 0 } else { count.max(1) })?;
     let reach = given.words.saturating_mul(2).saturating_add(phrase.ranks.len());
