@@ -42,6 +42,11 @@
 //! only where all its words lie in one document, and a pair of neighbours only where both do. [`Documents::summary`] gives the count of a phrase in each
 //! document; these add up to [`Documents::count`]. Without starts the text is one run from end to end.
 //!
+//! # Arrays in a file
+//!
+//! Arrays that lie in a file that was read as a whole need not be copied: [`Documents::over`] takes slices, of any content, with document starts, and each call makes
+//! its check. A listing goes on another day with the state that [`Pages::listing`] gave: [`Pages::resumed`].
+//!
 //! # Stack
 //!
 //! The engine allocates nothing; its tables lie on the stack of the calling thread. As `bench/stack.c` measures it, [`read_text`],

@@ -1,7 +1,7 @@
 //! Questions, sheets, pages and summaries with document starts, against the reference, which cuts the text at them.
 mod support;
 use concordance::entries::{self, Answer, RawPage};
-use concordance::{Arrays, Index, Listing, Page, Question, Refusal, Refused, Shape};
+use concordance::{Arrays, Documents, Index, Listing, Page, Question, Refusal, Refused, Shape};
 use support::random::Random;
 use support::{inputs, reference};
 
@@ -960,4 +960,66 @@ fn wrapped_limits() {
     let empty = Index::build(small(3), &[]).expect("the empty text is one");
     assert_eq!(empty.in_documents(&[]).summary(&[0]), Ok(vec![]));
     assert_eq!(empty.in_documents(&[0]).summary(&[0]), Err(refused(Refusal::Documents)));
+}
+
+/// A listing that goes on from a state gives the places from there on, and one above n is refused.
+#[test]
+fn resumed_pages() {
+    let mut random = Random::of("resumed_pages");
+    let mut refused = 0;
+    for _ in 0..1_000 {
+        let (mut lent, text, part) = good(&mut random);
+        lent.starts = inputs::starts(&mut random, text.len());
+        let documents = Documents::over(lent.shape, lent.arrays.slices(), &lent.starts);
+        let phrase = &lent.words[part.0..];
+        let next = random.below(text.len() + 3);
+        let pages = documents.pages(phrase, random.between(1, 3)).resumed(Listing { next, finished: false });
+        if next > text.len() {
+            let place = Refused { refusal: Refusal::Place, value: 0 };
+            assert_eq!(pages.collect::<Vec<_>>(), [Err(place)], "{lent:?}");
+            refused += 1;
+            continue;
+        }
+        let places: Vec<u32> = pages.flat_map(|page| page.expect("the state is inside").places).collect();
+        let pieces = reference::documents(&text, &lent.starts).expect("the starts keep the rules");
+        let all = reference::places_in(&pieces, phrase);
+        let expected: Vec<u32> = all.into_iter().filter(|&place| place >= next).map(|place| place as u32).collect();
+        assert_eq!(places, expected, "{lent:?} from {next}");
+    }
+    assert!(refused > 20, "{refused} refused");
+}
+
+/// Arrays that are lent without a check: damaged ones are refused by each call as the reference refuses them, and others are answered.
+#[test]
+fn lent_arrays() {
+    let mut random = Random::of("lent_arrays");
+    let (mut given, mut refused) = (0, 0);
+    for _ in 0..1_000 {
+        let (mut lent, text, part) = good(&mut random);
+        lent.starts = inputs::starts(&mut random, text.len());
+        if random.once_in(2) {
+            inputs::damage(&mut random, lent.shape, &mut lent.arrays);
+        }
+        let documents = Documents::over(lent.shape, lent.arrays.slices(), &lent.starts);
+        let phrase = &lent.words[part.0..];
+        let checked = reference::check(lent.shape, &lent.arrays).result();
+        assert_eq!(documents.check(), checked.map(|_| ()), "{lent:?}");
+        assert_eq!(documents.count(phrase), lent.ask(Question::phrase(part.0, part.1)).result(), "{lent:?}");
+        let first = documents.pages(phrase, 2).next().expect("there is a first page");
+        match checked {
+            Ok(_) => {
+                let words = documents.words();
+                let passage = documents.passage(0, words);
+                assert_eq!(passage.ok(), reference::text_of(lent.shape, &lent.arrays), "{lent:?}");
+                assert_eq!(documents.passage(0, words + 1).err().map(|refused| refused.refusal), Some(Refusal::Place));
+                given += 1;
+            }
+            Err(why) => {
+                assert_eq!((first, documents.passage(0, 0)), (Err(why), Err(why)), "{lent:?}");
+                assert_eq!(documents.answer_sheet(&[], &[]), Err(why), "{lent:?}");
+                refused += 1;
+            }
+        }
+    }
+    assert!(given > 400 && refused > 300, "{given} given, {refused} refused");
 }
