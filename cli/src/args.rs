@@ -63,8 +63,16 @@ pub enum Command {
 pub struct Asked {
     /// The index file
     pub index: PathBuf,
-    /// The phrase, up to 16 words, in quotation marks if it has more than one
-    pub phrase: OsString,
+    /// The phrase, up to 16 words, with or without quotation marks
+    #[arg(required = true)]
+    phrase: Vec<OsString>,
+}
+
+impl Asked {
+    /// The phrase, as if it had been typed in quotation marks.
+    pub fn phrase(&self) -> OsString {
+        self.phrase.join(" ".as_ref())
+    }
 }
 
 /// What `index` is given.

@@ -186,6 +186,10 @@ impl Collection {
             return Err(Fault::about("the phrase", why));
         }
         let words = self.typed_words(typed);
+        if words.len() > Question::MAX_PHRASE {
+            // The engine refuses it whatever its words are, so that they need not be found.
+            return Ok(Phrase { ranks: vec![self.absent(); words.len()], absent: Vec::new() });
+        }
         let listed: Option<Vec<&[u8]>> = words.iter().map(|word| word.letters.as_deref()).collect();
         if let Some(listed) = listed {
             match read_text_with(&self.letters, self.contents().list, &listed.join(&b'\n')) {

@@ -9,7 +9,7 @@ use std::io::Write;
 
 /// Prints the count of a phrase.
 pub fn run(asked: &Asked) -> Result<Found, Fault> {
-    let (collection, phrase) = Collection::ask(&asked.index, &asked.phrase)?;
+    let (collection, phrase) = Collection::ask(&asked.index, &asked.phrase())?;
     let count = collection.count(&phrase)?;
     let mut out = Output::open(false, false);
     writeln!(out, "{count}{}", absence(&phrase))?;

@@ -9,7 +9,7 @@ use std::io::Write;
 
 /// Prints the count of a phrase by document, and their sum, which is the count of the phrase.
 pub fn run(given: &DocumentsArguments, pager: bool) -> Result<Found, Fault> {
-    let (collection, phrase) = Collection::ask(&given.asked.index, &given.asked.phrase)?;
+    let (collection, phrase) = Collection::ask(&given.asked.index, &given.asked.phrase())?;
     let (count, counts) = both(|| collection.count(&phrase), || collection.documents().summary(&phrase.ranks));
     let counts = counts.map_err(|refused| collection.turned(refused))?;
     let count = count?;

@@ -22,7 +22,7 @@ struct Lines {
 
 /// Prints a page of the listing of a phrase, or all its lines sorted.
 pub fn run(given: &ListArguments, pager: bool) -> Result<Found, Fault> {
-    let (collection, phrase) = Collection::ask(&given.asked.index, &given.asked.phrase)?;
+    let (collection, phrase) = Collection::ask(&given.asked.index, &given.asked.phrase())?;
     let lines = match given.sort {
         Some(side) => sorted(&collection, &phrase, given, side)?,
         None => page(&collection, &phrase, given)?,
