@@ -115,6 +115,9 @@ pub struct ListArguments {
     /// How many lines a page has [default: 20; with --sort all lines]
     #[arg(short = 'n', long, value_name = "LINES")]
     pub lines: Option<usize>,
+    /// Print all lines
+    #[arg(long, conflicts_with = "lines")]
+    pub all: bool,
     /// How many words are shown on each side
     #[arg(short, long, value_name = "WORDS", default_value_t = 5)]
     pub words: usize,

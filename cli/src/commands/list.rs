@@ -61,7 +61,7 @@ fn places(
 /// A page of the listing. The phrase is counted at the same time.
 fn page(collection: &Collection, phrase: &Phrase, given: &ListArguments) -> Result<Lines, Fault> {
     let next = given.next.unwrap_or(0);
-    let lines = given.lines.unwrap_or(LINES);
+    let lines = if given.all { usize::MAX } else { given.lines.unwrap_or(LINES) };
     let (count, page) = both(|| collection.count(phrase), || places(collection, phrase, next, lines));
     let count = count?;
     let (here, after) = page?;
