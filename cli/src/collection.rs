@@ -147,6 +147,12 @@ impl Collection {
         Fault::about(&self.name, format_args!("refused. {why}"))
     }
 
+    /// What a refusal says, without the name of this file in front.
+    pub fn reason(&self, fault: &Fault) -> String {
+        let line = fault.line();
+        line.strip_prefix(&format!("{}: ", self.name)).unwrap_or(line).to_owned()
+    }
+
     /// A refusal for a rank of the text that the list has no word for.
     pub fn unspelled(&self) -> Fault {
         self.refused(
@@ -158,6 +164,18 @@ impl Collection {
     pub fn try_list(&self) -> Result<(), Fault> {
         let tried = read_text_with(&self.letters, self.contents().list, b"");
         tried.map(|_| ()).map_err(|refused| self.turned(refused))
+    }
+
+    /// How often each word of the list stands in the text, if the list keeps its rules and has all words of the text.
+    pub fn frequencies(&self) -> Result<Vec<u32>, Fault> {
+        self.try_list()?;
+        let words = self.documents().words();
+        let ranks = 0..self.spellings().len() as u32;
+        let counts = self.answers(ranks.map(|rank| Question::occurrences_below(rank, words)), |_| ())?;
+        match counts.iter().map(|&count| count as usize).sum::<usize>() == words {
+            true => Ok(counts),
+            false => Err(self.unspelled()),
+        }
     }
 
     /// The answers to questions of the index, in their order; in several sheets where they are many, and a refusal where one question is refused.

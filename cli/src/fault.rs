@@ -16,6 +16,14 @@ pub enum Fault {
 }
 
 impl Fault {
+    /// What is said; nothing where the output is closed.
+    pub fn line(&self) -> &str {
+        match self {
+            Fault::Said(line) | Fault::At(line) => line,
+            Fault::Closed => "",
+        }
+    }
+
     /// A refusal that begins with what it is about.
     pub fn about(what: impl Display, why: impl Display) -> Fault {
         Fault::Said(format!("{what}: {why}"))

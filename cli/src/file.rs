@@ -20,7 +20,7 @@ use std::io::{self, Read, Write};
 use std::path::{Path, PathBuf};
 
 /// What an index file begins with.
-pub const MARK: &[u8; 8] = b"concord\n";
+const MARK: &[u8; 8] = b"concord\n";
 /// The version of the layout.
 const VERSION: u32 = 1;
 /// The number that shows the order of bytes.
@@ -137,7 +137,7 @@ impl Display for Broken {
             Broken::Closing(closing) => {
                 write!(out, "refused. The file is coded with {closing} closing values, and this program reads {CLOSING}.")
             }
-            Broken::Limits => write!(out, "refused. A number in its header is too large; {MEND}"),
+            Broken::Limits => write!(out, "refused. The file is too large for the memory of this machine."),
             Broken::SectionOutside(section) => {
                 write!(out, "refused. The section \"{}\" does not lie inside the file; {MEND}", section.name())
             }
@@ -197,7 +197,7 @@ impl IndexFile {
         let mut front = Vec::with_capacity(FRONT);
         (&mut file).take(FRONT as u64).read_to_end(&mut front)?;
         let length = tried_front(&front, found)?;
-        let mut eights = vec![0; length.div_ceil(8)];
+        let mut eights = zeros(length.div_ceil(8))?;
         let bytes: &mut [u8] = bytemuck::cast_slice_mut(&mut eights);
         bytes[..FRONT].copy_from_slice(&front);
         let read = file.read_exact(&mut bytes[FRONT..length]);
@@ -258,6 +258,24 @@ impl IndexFile {
     }
 }
 
+/// So many zeros, if there is memory for them.
+fn zeros(number: usize) -> Result<Vec<u64>, Broken> {
+    Vec::<u64>::new().try_reserve_exact(number).map_err(|_| Broken::Limits)?;
+    Ok(vec![0; number])
+}
+
+/// Whether a file begins as an index does: with the mark and, behind the version, the byte order, which no plain text has.
+pub fn is_index(file: &[u8]) -> bool {
+    file.starts_with(MARK) && short_number(file, 12) == Some(BYTE_ORDER)
+}
+
+/// Whether the file with this name begins as an index does.
+pub fn is_index_at(path: &Path) -> io::Result<bool> {
+    let mut front = Vec::new();
+    File::open(path)?.take(ROWS as u64).read_to_end(&mut front)?;
+    Ok(is_index(&front))
+}
+
 /// The number of eight bytes at an offset.
 fn number(bytes: &[u8], at: usize) -> u64 {
     u64::from_le_bytes(std::array::from_fn(|i| bytes[at + i]))
@@ -302,7 +320,7 @@ fn tried_sections(bytes: &[u8]) -> Result<(Shape, [(usize, usize); Section::ALL.
         return Err(Broken::Closing(number(bytes, 40)));
     }
     let mut parts = [(0, 0); Section::ALL.len()];
-    let mut taken = vec![(0, ROWS + ROW * Section::ALL.len(), None)];
+    let mut taken = Vec::new();
     for section in Section::ALL {
         let row = ROWS + ROW * section as usize;
         let (offset, used, room) = (sized(row)?, sized(row + 8)?, sized(row + 16)?);
@@ -312,18 +330,15 @@ fn tried_sections(bytes: &[u8]) -> Result<(Shape, [(usize, usize); Section::ALL.
             return Err(Broken::SectionOrder(section));
         }
         parts[section as usize] = (offset, used);
-        taken.push((offset, end, Some(section)));
+        taken.push((offset, end, section));
     }
     taken.sort_by_key(|&(offset, end, _)| (offset, end));
-    let ends: Vec<usize> = taken.iter().skip(1).map(|&(offset, _, _)| offset).chain([bytes.len()]).collect();
-    for (at, (&(_, end, section), &next)) in taken.iter().zip(&ends).enumerate() {
-        if end > next {
-            let other = taken[at + 1].2;
-            return Err(Broken::SectionsOverlap(
-                section.unwrap_or(Section::Lengths),
-                other.unwrap_or(Section::Lengths),
-            ));
-        }
+    if let Some(pair) = taken.windows(2).find(|pair| pair[0].1 > pair[1].0) {
+        return Err(Broken::SectionsOverlap(pair[0].2, pair[1].2));
+    }
+    let ends = [ROWS + ROW * Section::ALL.len()].into_iter().chain(taken.iter().map(|&(_, end, _)| end));
+    let next = taken.iter().map(|&(offset, _, _)| offset).chain([bytes.len()]);
+    for (end, next) in ends.zip(next) {
         if let Some(gap) = bytes[end..next].iter().position(|&byte| byte != 0) {
             return Err(Broken::Gap(end + gap));
         }

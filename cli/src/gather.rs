@@ -1,8 +1,9 @@
 //! The files of a folder of letters, and the bytes that are read of them.
 use crate::fault::Fault;
-use crate::file::{is_name, MARK};
+use crate::file::{is_index, is_name};
+use crate::output::say;
 use crate::recode::{is_latin, Recoding};
-use std::collections::HashMap;
+use std::collections::HashSet;
 use std::fs;
 use std::ops::Range;
 use std::os::unix::ffi::OsStrExt;
@@ -14,7 +15,7 @@ const ENDING: &[u8] = b".txt";
 /// A file of the folder.
 pub struct Letter {
     pub path: PathBuf,
-    /// Its path below the folder, without its ending.
+    /// The name of the document: its path below the folder.
     pub name: Vec<u8>,
     /// The part of the text that was read of it.
     pub part: Range<usize>,
@@ -28,7 +29,8 @@ pub struct Gathered {
     pub latin: usize,
 }
 
-/// The files below a folder in the order of their paths, those excepted whose name begins with a dot; a file that is named itself is the only one.
+/// The files below a folder in the order of their names, those excepted whose name begins with a dot; a file that is named itself is the only one. Names are
+/// without their ending, unless two would become equal.
 pub fn files_below(folder: &Path) -> Result<Vec<Letter>, Fault> {
     let found = fs::metadata(folder).map_err(|error| Fault::file(folder, &error))?;
     let mut paths = Vec::new();
@@ -37,24 +39,24 @@ pub fn files_below(folder: &Path) -> Result<Vec<Letter>, Fault> {
     } else {
         paths.push(folder.to_owned());
     }
-    let below = |path: &Path| match path.strip_prefix(folder) {
-        Ok(rest) if !rest.as_os_str().is_empty() => rest.as_os_str().as_bytes().to_vec(),
-        _ => path.file_name().unwrap_or_default().as_bytes().to_vec(),
-    };
-    let mut named: Vec<(Vec<u8>, PathBuf)> = paths.into_iter().map(|path| (below(&path), path)).collect();
-    named.sort();
-    let mut short: HashMap<Vec<u8>, usize> = HashMap::new();
-    for (name, _) in &named {
-        *short.entry(without_ending(name).to_vec()).or_default() += 1;
-    }
-    let letters = named.into_iter().map(|(name, path)| match is_name(&name) {
-        true if short[without_ending(&name)] > 1 => Ok(Letter { path, name, part: 0..0 }),
-        true => Ok(Letter { path, name: without_ending(&name).to_vec(), part: 0..0 }),
-        false => {
-            Err(Fault::about(path.display(), "refused. The name has a control character; give the file another name."))
+    let mut letters = Vec::new();
+    for path in paths {
+        let name = match path.strip_prefix(folder) {
+            Ok(rest) if !rest.as_os_str().is_empty() => rest.as_os_str().as_bytes().to_vec(),
+            _ => path.file_name().unwrap_or_default().as_bytes().to_vec(),
+        };
+        if !is_name(&name) {
+            let why = "refused. The name has a control character; give the file another name.";
+            return Err(Fault::about(path.display(), why));
         }
-    });
-    letters.collect()
+        letters.push(Letter { path, name, part: 0..0 });
+    }
+    let short: HashSet<&[u8]> = letters.iter().map(|letter| without_ending(&letter.name)).collect();
+    if short.len() == letters.len() {
+        letters.iter_mut().for_each(|letter| letter.name = without_ending(&letter.name).to_vec());
+    }
+    letters.sort_by(|one, other| one.name.cmp(&other.name));
+    Ok(letters)
 }
 
 /// A name without its ending, unless nothing is left.
@@ -86,8 +88,8 @@ pub fn read(files: Vec<Letter>, recoding: &Recoding, mut progress: impl FnMut())
     for mut letter in files {
         let file = fs::read(&letter.path).map_err(|error| Fault::file(&letter.path, &error))?;
         progress();
-        if file.starts_with(MARK) {
-            eprintln!("{}: left out, since it is an index", letter.path.display());
+        if is_index(&file) {
+            say(format_args!("{}: left out, since it is an index", letter.path.display()));
             continue;
         }
         let start = gathered.text.len();

@@ -42,6 +42,6 @@ fn main() -> ExitCode {
 
 /// Says why a command is refused.
 fn refuse(line: &str) -> ExitCode {
-    eprintln!("{line}");
+    output::say(line);
     ExitCode::from(2)
 }

@@ -1,7 +1,13 @@
 //! Where the lines of a command go: plain to a file or a pipe, in colour and page by page to a terminal.
 use std::env;
+use std::fmt::Display;
 use std::io::{self, BufWriter, IsTerminal, StdoutLock, Write};
 use std::process::{Child, Command, Stdio};
+
+/// Says something beside the output. That nobody may be there to read it is no fault.
+pub fn say(line: impl Display) {
+    let _ = writeln!(io::stderr(), "{line}");
+}
 
 /// The output of a command.
 pub struct Output {

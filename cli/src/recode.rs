@@ -48,14 +48,11 @@ enum Placed {
 }
 
 impl Recoding {
-    /// Reads the lines of a file of replacements, or what an index keeps: a character, white space, and what is read in its place, in ISO 8859-1.
-    pub fn read(lines: &[u8]) -> Result<Recoding, Unread> {
-        let text = decode(lines);
-        if text.trim_end() == AS_IT_IS {
-            return Ok(Recoding::Raw);
-        }
-        let mut replacements = HashMap::new();
-        for (at, line) in text.lines().enumerate() {
+    /// Reads the lines of a file of replacements: a character, white space, and what is read in its place, in ISO 8859-1. Of characters that are one letter in two
+    /// cases, the one of which nothing is said is replaced as the other.
+    pub fn replacing(lines: &[u8]) -> Result<Recoding, Unread> {
+        let mut given: Vec<(char, Vec<u8>)> = Vec::new();
+        for (at, line) in decode(lines).lines().enumerate() {
             let refused = |why: &str| Unread { line: at + 1, column: 1, why: why.to_owned() };
             let mut chars = line.trim().chars();
             let Some(letter) = chars.next() else { continue };
@@ -69,12 +66,26 @@ impl Recoding {
             let Some(bytes) = rest.trim().chars().map(|c| u8::try_from(u32::from(c)).ok()).collect() else {
                 return Err(refused("what is read in its place must be in ISO 8859-1"));
             };
-            if replacements.insert(letter, bytes).is_some() {
+            if given.iter().any(|(earlier, _)| *earlier == letter) {
                 return Err(refused("the letter is replaced in an earlier line already"));
             }
+            given.push((letter, bytes));
         }
-        add_other_case(&mut replacements);
+        let mut replacements: HashMap<char, Vec<u8>> = given.iter().cloned().collect();
+        for (letter, bytes) in given {
+            if let Some(other) = other_case(letter) {
+                replacements.entry(other).or_insert(bytes);
+            }
+        }
         Ok(Recoding::Latin(replacements))
+    }
+
+    /// Reads what an index keeps: the lines of [`Recoding::lines`].
+    pub fn read(lines: &[u8]) -> Result<Recoding, Unread> {
+        match lines == Recoding::Raw.lines().as_bytes() {
+            true => Ok(Recoding::Raw),
+            false => Recoding::replacing(lines),
+        }
     }
 
     /// The lines that [`Recoding::read`] reads as this recoding, in the order of the characters.
@@ -172,23 +183,21 @@ impl Recoding {
     }
 }
 
-/// Adds to replaced letters above U+00FF the same letters in the other case, where nothing is said of these.
-fn add_other_case(replacements: &mut HashMap<char, Vec<u8>>) {
-    let given: Vec<(char, Vec<u8>)> = replacements.iter().map(|(&letter, bytes)| (letter, bytes.clone())).collect();
-    for (letter, bytes) in given {
-        for other in letter.to_lowercase().chain(letter.to_uppercase()) {
-            let is_one = letter.to_lowercase().count() == 1 && letter.to_uppercase().count() == 1;
-            if is_one && other > '\u{FF}' {
-                replacements.entry(other).or_insert_with(|| bytes.clone());
-            }
-        }
-    }
+/// A letter in the other case, if that is one letter and both are in ISO 8859-1 or both are not.
+fn other_case(letter: char) -> Option<char> {
+    let cases: Vec<char> = letter.to_lowercase().chain(letter.to_uppercase()).collect();
+    let other = match cases[..] {
+        [small, capital] if small != letter => Some(small).filter(|_| capital == letter),
+        [small, capital] => Some(capital).filter(|_| small == letter),
+        _ => None,
+    };
+    other.filter(|&other| other != letter && (other > '\u{FF}') == (letter > '\u{FF}'))
 }
 
-/// The characters of a file: UTF-8 if it is, and otherwise ISO 8859-1 with the signs of Windows-1252.
+/// The characters of a file: UTF-8 if it is, without the mark of the byte order, and otherwise ISO 8859-1 with the signs of Windows-1252.
 fn decode(file: &[u8]) -> Cow<'_, str> {
     match std::str::from_utf8(file) {
-        Ok(text) => Cow::Borrowed(text),
+        Ok(text) => Cow::Borrowed(text.strip_prefix('\u{FEFF}').unwrap_or(text)),
         Err(_) => Cow::Owned(file.iter().map(|&byte| windows(byte)).collect()),
     }
 }
@@ -222,10 +231,11 @@ fn put_char(c: char, replacements: &HashMap<char, Vec<u8>>, bytes: &mut Vec<u8>)
         '\u{00}'..='\u{FF}' => bytes.push(c as u8),
         '‘' | '’' | '‛' | '\u{2BC}' => bytes.push(b'\''),
         '\u{2010}' | '\u{2011}' => bytes.push(b'-'),
-        _ if is_mark(c) => match bytes.last_mut().and_then(|base| Some((compose(*base, c)?, base))) {
-            Some((composed, base)) => *base = composed,
-            None => return Placed::Outside,
-        },
+        _ if is_mark(c) => {
+            let Some(composed) = bytes.last().and_then(|&base| compose(base, c)) else { return Placed::Outside };
+            bytes.pop();
+            return put_char(composed, replacements, bytes);
+        }
         _ if is_letter(c) => return Placed::Outside,
         _ => bytes.push(b' '),
     }
@@ -233,10 +243,10 @@ fn put_char(c: char, replacements: &HashMap<char, Vec<u8>>, bytes: &mut Vec<u8>)
 }
 
 /// The letter of ISO 8859-1 that is a base letter with a combining mark.
-fn compose(base: u8, mark: char) -> Option<u8> {
+fn compose(base: u8, mark: char) -> Option<char> {
     let (_, bases, composed) = COMPOSED.iter().find(|(with, _, _)| *with == mark)?;
     let at = bases.chars().position(|letter| letter == char::from(base))?;
-    composed.chars().nth(at).map(|letter| letter as u8)
+    composed.chars().nth(at)
 }
 
 /// Whether a character is a mark that is combined with the letter before it.
@@ -318,13 +328,13 @@ mod tests {
     }
 
     #[test]
-    fn replaces_letters_and_keeps_the_replacements() {
-        let recoding = Recoding::read("œ oe\n\nŁ L\nÿ y\n".as_bytes()).unwrap();
-        assert_eq!(put(&recoding, "cœur Œ Łłÿ".as_bytes()).unwrap(), b"coeur oe LLy");
-        assert!(put(&recoding, "Ÿ".as_bytes()).is_ok_and(|bytes| bytes == b"y"));
+    fn replaces_letters_in_both_cases_and_keeps_the_replacements() {
+        let recoding = Recoding::replacing("\u{FEFF}œ oe\n\nŁ L\nÿ y\né e\nσ s\nς z\n".as_bytes()).unwrap();
+        assert_eq!(put(&recoding, "cœur Œ Łłÿ ÉéE\u{301} Σσς".as_bytes()).unwrap(), b"coeur oe LLy eee ssz");
+        assert!(put(&recoding, "Ÿ".as_bytes()).is_err());
         assert_eq!(Recoding::read(recoding.lines().as_bytes()), Ok(recoding));
-        for (lines, line) in [("œoe", 1), ("ł l\nł w", 2), ("é e\na b", 2), ("ж ж", 1)] {
-            assert_eq!(Recoding::read(lines.as_bytes()).unwrap_err().line, line, "{lines}");
+        for (lines, line) in [("œoe", 1), ("ł l\nł w", 2), ("é e\na b", 2), ("ж ж", 1), ("raw", 1)] {
+            assert_eq!(Recoding::replacing(lines.as_bytes()).unwrap_err().line, line, "{lines}");
         }
     }
 
@@ -338,7 +348,7 @@ mod tests {
 
     #[test]
     fn finds_where_a_byte_comes_from() {
-        let recoding = Recoding::read("œ oe".as_bytes()).unwrap();
+        let recoding = Recoding::replacing("œ oe".as_bytes()).unwrap();
         let text = "\u{AD}é\nœu e\u{301}ł".replace('ł', "x");
         let bytes = put(&recoding, text.as_bytes()).unwrap();
         assert_eq!(bytes, b"\xE9\noeu \xE9x");

@@ -166,8 +166,7 @@ def split(text):
 
 # ----------------------------------------------------------------- the folder
 
-# The paths, below the folder, of all regular files in it that are not hidden,
-# in the order of their bytes.
+# The paths, below the folder, of all regular files in it that are not hidden.
 def paths_below(folder, below=b""):
     paths = []
     for name in os.listdir(os.path.join(folder, below)):
@@ -179,12 +178,16 @@ def paths_below(folder, below=b""):
             paths += paths_below(folder, path)
         elif stat.S_ISREG(mode):
             paths.append(path)
-    return sorted(paths)
+    return paths
 
 
-# The name of a document: its path without a final ".txt".
-def document_name(path):
-    return os.fsdecode(path[:-4] if path.endswith(b".txt") else path)
+# The names of documents with their paths, in the order of the bytes of the
+# names: the path without a final ".txt", unless two would be equal.
+def named_paths(paths):
+    names = [path[:-4] if path.endswith(b".txt") else path for path in paths]
+    if len(set(names)) < len(names):
+        names = paths
+    return sorted(zip(names, paths))
 
 
 # Refuses a text with a foreign letter and says where the first one stands.
@@ -202,7 +205,7 @@ def read_collection(folder):
     folder = os.fsencode(folder)
     words = []
     documents = []
-    for path in paths_below(folder):
+    for name, path in named_paths(paths_below(folder)):
         with open(os.path.join(folder, path), "rb") as file:
             text = characters(file.read())
         found = split(text)
@@ -214,7 +217,7 @@ def read_collection(folder):
             continue
         start = len(words)
         words += found
-        documents.append(Document(document_name(path), start, len(words)))
+        documents.append(Document(os.fsdecode(name), start, len(words)))
     return Collection(words, documents)
 
 

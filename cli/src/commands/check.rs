@@ -4,7 +4,6 @@ use crate::collection::Collection;
 use crate::fault::{Fault, Turned};
 use crate::output::Output;
 use crate::Found;
-use concordance::Question;
 use std::io::Write;
 use std::path::Path;
 
@@ -55,15 +54,9 @@ fn on_documents(collection: &Collection) -> Verdict {
 
 /// Whether the word list keeps its rules, and each word of the text is in it.
 fn on_list(collection: &Collection) -> Verdict {
-    let said = |fault: Fault| match fault {
-        Fault::Said(line) | Fault::At(line) => format!("word list: {line}"),
-        Fault::Closed => "word list: the output is closed".to_owned(),
-    };
-    collection.try_list().map_err(said)?;
-    let listed: usize = frequencies(collection).map_err(said)?.iter().map(|&count| count as usize).sum();
-    match listed == collection.documents().words() {
-        true => Ok(None),
-        false => Err(said(collection.unspelled())),
+    match collection.frequencies() {
+        Ok(_) => Ok(None),
+        Err(fault) => Err(format!("word list: {}", collection.reason(&fault))),
     }
 }
 
@@ -73,11 +66,4 @@ fn on_file(collection: &Collection) -> Verdict {
         Ok(()) => Ok(Some("file: as it was written".to_owned())),
         Err(broken) => Err(format!("file: {broken}")),
     }
-}
-
-/// How often each word of the list stands in the text.
-pub fn frequencies(collection: &Collection) -> Result<Vec<u32>, Fault> {
-    let words = collection.documents().words();
-    let ranks = 0..collection.spellings().len() as u32;
-    collection.answers(ranks.map(|rank| Question::occurrences_below(rank, words)), |_| ())
 }

@@ -1,5 +1,5 @@
 //! `concord count`: how often a phrase stands.
-use super::{absence, found};
+use super::{found, remark};
 use crate::args::Asked;
 use crate::collection::Collection;
 use crate::fault::Fault;
@@ -12,7 +12,7 @@ pub fn run(asked: &Asked) -> Result<Found, Fault> {
     let (collection, phrase) = Collection::ask(&asked.index, &asked.phrase())?;
     let count = collection.count(&phrase)?;
     let mut out = Output::open(false, false);
-    writeln!(out, "{count}{}", absence(&phrase))?;
+    writeln!(out, "{count}{}", remark(&phrase))?;
     out.close()?;
     Ok(found(count))
 }

@@ -1,9 +1,9 @@
 //! `concord documents`: how often a phrase stands in each document.
-use super::{absence, found};
+use super::{found, remark};
 use crate::args::DocumentsArguments;
 use crate::collection::{both, Collection};
 use crate::fault::Fault;
-use crate::output::{Colour, Output};
+use crate::output::{say, Colour, Output};
 use crate::Found;
 use std::io::Write;
 
@@ -18,7 +18,7 @@ pub fn run(given: &DocumentsArguments, pager: bool) -> Result<Found, Fault> {
             .refused("The counts by document do not add up. This is a fault of the program; please report it."));
     }
     let with = counts.iter().filter(|&&count| count > 0).count();
-    let closing = format!("{count:>6}  in {with} of {} documents{}", counts.len(), absence(&phrase));
+    let closing = format!("{count:>6}  in {with} of {} documents{}", counts.len(), remark(&phrase));
     let mut out = Output::open(given.tsv, pager);
     if given.tsv {
         writeln!(out, "count\tdocument")?;
@@ -36,7 +36,7 @@ pub fn run(given: &DocumentsArguments, pager: bool) -> Result<Found, Fault> {
     }
     out.close()?;
     if given.tsv {
-        eprintln!("{}", closing.trim_start());
+        say(closing.trim_start());
     }
     Ok(found(count))
 }

@@ -2,17 +2,17 @@
 use super::{counted, progress};
 use crate::args::IndexArguments;
 use crate::fault::Fault;
-use crate::file::{image, write, Contents, MARK};
+use crate::file::{image, is_index_at, write, Contents};
 use crate::gather::{files_below, read, Gathered};
-use crate::output::Output;
+use crate::output::{say, Output};
 use crate::recode::Recoding;
 use crate::spelling::{broken_line, count_words, each_word, word_list};
 use crate::Found;
 use concordance::{read_text_with, Index, Letters, Refusal, Refused, Shape};
 use indicatif::ProgressBar;
 use std::ffi::OsString;
-use std::fs::{self, File};
-use std::io::{Read, Write};
+use std::fs;
+use std::io::Write;
 use std::path::{Path, PathBuf};
 use std::time::Duration;
 
@@ -31,7 +31,7 @@ pub fn run(given: &IndexArguments) -> Result<Found, Fault> {
     let gathered = read(files, &recoding, || bar.inc(1))?;
     bar.finish_and_clear();
     if gathered.latin > 0 {
-        eprintln!("{} not UTF-8 and read as ISO 8859-1", files_are(gathered.latin));
+        say(format_args!("{} not UTF-8 and read as ISO 8859-1", files_are(gathered.latin)));
     }
     let list = match &given.list {
         Some(path) => list_in(path, &recoding)?,
@@ -64,7 +64,7 @@ pub fn run(given: &IndexArguments) -> Result<Found, Fault> {
     Ok(Found::Something)
 }
 
-/// The file that is written. One that is there already must be an index, so that nothing else is lost.
+/// The file that is written. One that is there already must be an index, so that nothing else is lost; of a link it is the file that it leads to.
 fn output(given: &IndexArguments) -> Result<PathBuf, Fault> {
     let path = match &given.output {
         Some(path) => path.clone(),
@@ -75,18 +75,14 @@ fn output(given: &IndexArguments) -> Result<PathBuf, Fault> {
             PathBuf::from(name)
         }
     };
-    if fs::metadata(&path).is_ok() {
-        let mut front = Vec::new();
-        let read = File::open(&path).and_then(|file| file.take(MARK.len() as u64).read_to_end(&mut front));
-        read.map_err(|error| Fault::file(&path, &error))?;
-        if front != MARK {
-            return Err(Fault::about(
-                path.display(),
-                "refused. The file is there already and is no index; give another name.",
-            ));
+    let Ok(there) = fs::canonicalize(&path) else { return Ok(path) };
+    match is_index_at(&there) {
+        Ok(true) => Ok(there),
+        Ok(false) => {
+            Err(Fault::about(path.display(), "refused. The file is there already and is no index; give another name."))
         }
+        Err(error) => Err(Fault::file(&path, &error)),
     }
-    Ok(path)
 }
 
 /// The letter table in a file: 256 bytes, or 256 numbers in two hexadecimal digits.
@@ -116,7 +112,7 @@ fn recoding(given: &IndexArguments) -> Result<Recoding, Fault> {
     }
     let Some(path) = &given.replace else { return Ok(Recoding::Latin(Default::default())) };
     let lines = fs::read(path).map_err(|error| Fault::file(path, &error))?;
-    let read = Recoding::read(&lines);
+    let read = Recoding::replacing(&lines);
     read.map_err(|unread| Fault::at(path, unread.line, None, unread.why))
 }
 
@@ -126,12 +122,25 @@ fn list_in(path: &Path, recoding: &Recoding) -> Result<Vec<u8>, Fault> {
     let mut list = Vec::new();
     recoding.put(&file, &mut list).map_err(|unread| Fault::at(path, unread.line, Some(unread.column), unread.why))?;
     if *recoding != Recoding::Raw {
-        list.retain(|&byte| byte != b'\r');
+        list = with_line_ends(&list);
     }
     if list.last().is_some_and(|&last| last != b'\n') {
         list.push(b'\n');
     }
     Ok(list)
+}
+
+/// A text whose lines all end with LF, of one that ends them with CR LF or CR.
+fn with_line_ends(text: &[u8]) -> Vec<u8> {
+    let mut lines = Vec::with_capacity(text.len());
+    for (at, &byte) in text.iter().enumerate() {
+        match byte {
+            b'\r' if text.get(at + 1) == Some(&b'\n') => {}
+            b'\r' => lines.push(b'\n'),
+            _ => lines.push(byte),
+        }
+    }
+    lines
 }
 
 /// The word list that is made of the letters.
@@ -191,7 +200,7 @@ fn documents(gathered: &Gathered, letters: &Letters, words: usize) -> Result<(Ve
     for (letter, part) in gathered.letters.iter().zip(gathered.parts()) {
         let length = count_words(letters, part);
         if length == 0 {
-            eprintln!("{}: left out, since it has no word", letter.path.display());
+            say(format_args!("{}: left out, since it has no word", letter.path.display()));
             continue;
         }
         starts.push(place as u32);

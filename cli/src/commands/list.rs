@@ -1,10 +1,10 @@
 //! `concord list`: the places of a phrase with the words around them.
 use super::context::{contexts, Context};
-use super::{absence, found, progress};
+use super::{found, progress, remark};
 use crate::args::{ListArguments, Side};
 use crate::collection::{both, Collection, Phrase};
 use crate::fault::Fault;
-use crate::output::{Colour, Output};
+use crate::output::{say, Colour, Output};
 use crate::spelling::{dictionary_key, Spellings};
 use crate::Found;
 use concordance::Listing;
@@ -35,7 +35,7 @@ pub fn run(given: &ListArguments, pager: bool) -> Result<Found, Fault> {
     }
     out.close()?;
     if given.tsv {
-        eprintln!("{}", lines.closing);
+        say(lines.closing);
     }
     Ok(found(lines.contexts.len()))
 }
@@ -70,7 +70,7 @@ fn page(collection: &Collection, phrase: &Phrase, given: &ListArguments) -> Resu
         _ => places(collection, phrase, 0, count.max(1))?.0.partition_point(|&place| (place as usize) < next),
     };
     let closing = match here.len() {
-        0 if count == 0 => format!("0{}", absence(phrase)),
+        0 if count == 0 => format!("0{}", remark(phrase)),
         0 => format!("no line of {count} from place {next} on"),
         lines => {
             let after = after.map_or(String::new(), |after| format!("; next page: --next {after}"));
@@ -105,7 +105,7 @@ fn sorted(collection: &Collection, phrase: &Phrase, given: &ListArguments, side:
     });
     contexts.truncate(asked);
     let closing = match contexts.len() {
-        0 => format!("0{}", absence(phrase)),
+        0 => format!("0{}", remark(phrase)),
         lines => format!("{} of {count}, sorted", numbered(1, lines)),
     };
     Ok(Lines { contexts, closing })

@@ -13,10 +13,12 @@ mod words;
 use crate::args::{Arguments, Command};
 use crate::collection::Phrase;
 use crate::fault::Fault;
+use crate::output::Output;
 use crate::Found;
 use clap::CommandFactory;
 use indicatif::{ProgressBar, ProgressStyle};
-use std::fmt::Write;
+use std::fmt::Write as _;
+use std::io::Write as _;
 
 /// Runs a command.
 pub fn run(arguments: Arguments) -> Result<Found, Fault> {
@@ -32,7 +34,11 @@ pub fn run(arguments: Arguments) -> Result<Found, Fault> {
         Command::Text(given) => text::run(&given, pager),
         Command::Explain { number } => explain::run(number),
         Command::Completions { shell } => {
-            clap_complete::generate(shell, &mut Arguments::command(), "concord", &mut std::io::stdout());
+            let mut script = Vec::new();
+            clap_complete::generate(shell, &mut Arguments::command(), "concord", &mut script);
+            let mut out = Output::open(false, false);
+            out.write_all(&script)?;
+            out.close()?;
             Ok(Found::Something)
         }
     }
@@ -46,8 +52,11 @@ fn found(count: usize) -> Found {
     }
 }
 
-/// Behind a count of 0: which words of the phrase are in no letter; nothing where all are in some.
-fn absence(phrase: &Phrase) -> String {
+/// Behind a count: which words of the phrase are in no letter, or that it has no words; nothing where neither is so.
+fn remark(phrase: &Phrase) -> String {
+    if phrase.ranks.is_empty() {
+        return "   (a phrase of no words stands at every place, the end of the text included)".to_owned();
+    }
     let mut line = String::new();
     for (at, word) in phrase.absent.iter().enumerate() {
         let begins = if at == 0 { "   (no letter has the word" } else { " or" };

@@ -1,6 +1,6 @@
 //! `concord neighbours`: the words beside a word, by their distance.
 use super::context::contexts;
-use super::{absence, found, progress};
+use super::{found, progress, remark};
 use crate::args::NeighboursArguments;
 use crate::collection::Collection;
 use crate::fault::Fault;
@@ -31,7 +31,7 @@ pub fn run(given: &NeighboursArguments, pager: bool) -> Result<Found, Fault> {
     let mut out = Output::open(given.tsv, pager);
     match given.tsv {
         true => print_table(&mut out, &collection, &table)?,
-        false if count == 0 => writeln!(out, "0{}", absence(&phrase))?,
+        false if count == 0 => writeln!(out, "0{}", remark(&phrase))?,
         false => print_columns(&mut out, &collection, &table)?,
     }
     out.close()?;

@@ -6,6 +6,7 @@ use crate::fault::Fault;
 use crate::output::{Colour, Output};
 use crate::spelling::Spellings;
 use crate::Found;
+use std::collections::HashSet;
 use std::ffi::OsStr;
 use std::fs;
 use std::io::Write;
@@ -32,8 +33,7 @@ enum Target<'a> {
 pub fn run(given: &TextArguments, pager: bool) -> Result<Found, Fault> {
     let collection = Collection::open(&given.index)?;
     let documents = collection.documents();
-    documents.answer_sheet(&[], &[]).map_err(|refused| collection.turned(refused))?;
-    collection.try_list()?;
+    collection.frequencies()?;
     let names = collection.names();
     let chosen: Vec<usize> = match &given.document {
         None => (0..names.len()).collect(),
@@ -49,6 +49,11 @@ pub fn run(given: &TextArguments, pager: bool) -> Result<Found, Fault> {
         (None, false) => Target::Lines(Output::open(false, pager)),
     };
     if let Target::Folder(folder) = target {
+        let files: Vec<Vec<u8>> = chosen.iter().map(|&number| file_of(names[number])).collect();
+        if let Some(file) = in_the_way(&files) {
+            let why = "refused. One document would be a file where another needs a folder; give --document NAME.";
+            return Err(Fault::about(String::from_utf8_lossy(file), why));
+        }
         fs::create_dir(folder).map_err(|error| Fault::file(folder, &error))?;
     }
     if let Target::Table(out) = &mut target {
@@ -65,6 +70,20 @@ pub fn run(given: &TextArguments, pager: bool) -> Result<Found, Fault> {
         out.close()?;
     }
     Ok(super::found(chosen.len()))
+}
+
+/// The file of a document.
+fn file_of(name: &[u8]) -> Vec<u8> {
+    [name, b".txt"].concat()
+}
+
+/// A file whose name is that of a folder in which another lies.
+fn in_the_way(files: &[Vec<u8>]) -> Option<&[u8]> {
+    let names: HashSet<&[u8]> = files.iter().map(Vec::as_slice).collect();
+    files.iter().find_map(|file| {
+        let mut folders = (0..file.len()).filter(|&end| file[end] == b'/');
+        folders.find_map(|end| names.get(&file[..end]).copied())
+    })
 }
 
 /// The ranks of the text, read in long passages from the front on.
@@ -109,7 +128,7 @@ fn put(collection: &Collection, target: &mut Target, name: &[u8], words: &[&[u8]
             writeln!(out)?;
         }
         Target::Folder(folder) => {
-            let path = folder.join(OsStr::from_bytes(&[name, b".txt"].concat()));
+            let path = folder.join(OsStr::from_bytes(&file_of(name)));
             let written = path.parent().map_or(Ok(()), fs::create_dir_all);
             let written = written.and_then(|()| fs::write(&path, collection.shown(&wrapped(words))));
             written.map_err(|error| Fault::file(&path, &error))?;

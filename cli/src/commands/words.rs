@@ -1,10 +1,9 @@
 //! `concord words`: the words by their frequency.
-use super::check::frequencies;
 use super::{counted, found};
 use crate::args::WordsArguments;
 use crate::collection::Collection;
 use crate::fault::Fault;
-use crate::output::Output;
+use crate::output::{say, Output};
 use crate::Found;
 use std::cmp::Reverse;
 use std::io::Write;
@@ -12,12 +11,8 @@ use std::io::Write;
 /// Prints the most frequent words, equally frequent ones in the order of the list, and how much of the text the others are.
 pub fn run(given: &WordsArguments, pager: bool) -> Result<Found, Fault> {
     let collection = Collection::open(&given.index)?;
-    collection.try_list()?;
-    let frequencies = frequencies(&collection)?;
-    let total: usize = frequencies.iter().map(|&count| count as usize).sum();
-    if total != collection.documents().words() {
-        return Err(collection.unspelled());
-    }
+    let frequencies = collection.frequencies()?;
+    let total = collection.documents().words();
     let mut ranked: Vec<(u32, u32)> = (0..).zip(frequencies).filter(|&(_, count)| count > 0).collect();
     ranked.sort_by_key(|&(rank, count)| (Reverse(count), rank));
     let different = ranked.len();
@@ -49,7 +44,7 @@ pub fn run(given: &WordsArguments, pager: bool) -> Result<Found, Fault> {
     }
     out.close()?;
     if given.tsv {
-        eprintln!("{closing}");
+        say(closing);
     }
     Ok(found(total))
 }
