@@ -3,13 +3,13 @@ use crate::fault::{Fault, Turned};
 use crate::file::{names_of, Broken, Contents, IndexFile};
 use crate::recode::Recoding;
 use crate::spelling::{broken_line, Spellings};
+use crate::threads::both;
 use concordance::{find_word_with, read_text_with, Documents, Letters, Question, Refusal, Refused};
 use std::borrow::Cow;
 use std::ffi::OsStr;
 use std::fmt::Display;
 use std::os::unix::ffi::OsStrExt;
 use std::path::Path;
-use std::thread;
 
 /// How many questions are asked at a time: the check is made once for each time.
 const SHEET: usize = 1 << 20;
@@ -42,18 +42,6 @@ impl Default for TypedWord {
     }
 }
 
-/// What two pieces of work give that are done at the same time, the first on a thread of its own.
-pub fn both<A: Send, B>(there: impl FnOnce() -> A + Send, here: impl FnOnce() -> B) -> (A, B) {
-    thread::scope(|scope| {
-        let there = scope.spawn(there);
-        let here = here();
-        match there.join() {
-            Ok(there) => (there, here),
-            Err(panic) => std::panic::resume_unwind(panic),
-        }
-    })
-}
-
 impl Collection {
     /// Opens a file: tries what can be tried without the engine, the checksum too, and the letter table.
     pub fn open(path: &Path) -> Result<Collection, Fault> {
@@ -65,7 +53,7 @@ impl Collection {
     /// Opens a file as [`Collection::open`] and reads a typed phrase, at the same time as the checksum is made; that is what is said first.
     pub fn ask(path: &Path, typed: &OsStr) -> Result<(Collection, Phrase), Fault> {
         let collection = Collection::read(path)?;
-        let (checksum, phrase) = both(|| collection.try_checksum(), || collection.phrase(typed.as_bytes()));
+        let (checksum, phrase) = both(|| collection.try_checksum(), || collection.phrase(typed.as_bytes()))?;
         checksum.map_err(|broken| Fault::about(path.display(), broken))?;
         let phrase = phrase?;
         Ok((collection, phrase))

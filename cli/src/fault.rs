@@ -50,7 +50,7 @@ impl From<io::Error> for Fault {
     fn from(error: io::Error) -> Fault {
         match error.kind() {
             io::ErrorKind::BrokenPipe => Fault::Closed,
-            _ => Fault::about("the output", plain(&error)),
+            _ => Fault::Said(plain(&error)),
         }
     }
 }

@@ -11,12 +11,14 @@
 //! | 48 | 8, 8 | the length of the file; CRC-64/XZ of all bytes, these eight taken as 0 |
 //! | 64 | 10 × 24 | for each section: its offset, the elements used, the elements for which there is room |
 use crate::crc::Crc;
+use crate::threads::both;
 use bytemuck::Pod;
 use concordance::entries::Slices;
 use concordance::Shape;
 use std::fmt::{self, Display};
 use std::fs::{self, File};
 use std::io::{self, Read, Write};
+use std::os::unix::fs::FileExt;
 use std::path::{Path, PathBuf};
 
 /// What an index file begins with.
@@ -200,8 +202,7 @@ impl IndexFile {
         let mut eights = zeros(length.div_ceil(8))?;
         let bytes: &mut [u8] = bytemuck::cast_slice_mut(&mut eights);
         bytes[..FRONT].copy_from_slice(&front);
-        let read = file.read_exact(&mut bytes[FRONT..length]);
-        read.map_err(|_| Broken::Length { stated: length as u64, found: FRONT as u64 })?;
+        read_rest(&file, &mut bytes[FRONT..length])?;
         let (shape, parts) = tried_sections(&bytes[..length])?;
         let file = IndexFile { eights, length, shape, parts };
         file.try_contents()?;
@@ -256,6 +257,15 @@ impl IndexFile {
             false => Err(Broken::Checksum),
         }
     }
+}
+
+/// Reads what stands behind the front of a file, one half on a thread of its own. A file that has become shorter is refused.
+fn read_rest(file: &File, bytes: &mut [u8]) -> Result<(), Broken> {
+    let half = bytes.len() / 2;
+    let (first, second) = bytes.split_at_mut(half);
+    let (there, here) =
+        both(|| file.read_exact_at(second, (FRONT + half) as u64), || file.read_exact_at(first, FRONT as u64))?;
+    there.and(here).map_err(Broken::System)
 }
 
 /// So many zeros, if there is memory for them.

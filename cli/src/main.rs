@@ -10,15 +10,12 @@ mod gather;
 mod output;
 mod recode;
 mod spelling;
+mod threads;
 
 use args::Arguments;
 use clap::Parser;
 use fault::Fault;
 use std::process::ExitCode;
-use std::thread;
-
-/// The stack of the thread that calls the engine, whose tables lie there: 1.5 MB at the most.
-const STACK: usize = 8 << 20;
 
 /// Whether a command has found what it was asked for.
 pub enum Found {
@@ -28,14 +25,12 @@ pub enum Found {
 
 fn main() -> ExitCode {
     let arguments = Arguments::parse();
-    let run = thread::Builder::new().stack_size(STACK).spawn(move || commands::run(arguments));
-    match run.map(thread::JoinHandle::join) {
-        Ok(Ok(Ok(Found::Something))) => ExitCode::SUCCESS,
-        Ok(Ok(Ok(Found::Nothing))) => ExitCode::from(1),
-        Ok(Ok(Err(Fault::Said(line)))) => refuse(&format!("concord: {line}")),
-        Ok(Ok(Err(Fault::At(line)))) => refuse(&line),
-        Ok(Ok(Err(Fault::Closed))) => ExitCode::from(141),
-        Ok(Err(_)) => ExitCode::from(2),
+    match threads::on_thread(|| commands::run(arguments)) {
+        Ok(Ok(Found::Something)) => ExitCode::SUCCESS,
+        Ok(Ok(Found::Nothing)) => ExitCode::from(1),
+        Ok(Err(Fault::Said(line))) => refuse(&format!("concord: {line}")),
+        Ok(Err(Fault::At(line))) => refuse(&line),
+        Ok(Err(Fault::Closed)) => ExitCode::from(141),
         Err(error) => refuse(&format!("concord: no thread could be started: {error}")),
     }
 }

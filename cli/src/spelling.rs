@@ -1,8 +1,11 @@
 //! Words and their ranks: the word list of a text, the spelling of a rank, and where a list breaks a rule.
-use concordance::{make_list_with, Letters, Refusal, Refused, MAX_LIST_TEXT};
+use crate::fault::Fault;
+use crate::threads::both;
+use concordance::{make_list_with, read_text_with, Letters, Refusal, Refused, MAX_LIST_TEXT};
 use std::cmp::Reverse;
 use std::collections::HashMap;
 use std::hash::{BuildHasherDefault, Hasher};
+use std::io;
 
 /// What closes a word of a list.
 const CLOSING: u8 = b'\n';
@@ -36,21 +39,40 @@ pub fn count_words(letters: &Letters, text: &[u8]) -> usize {
     words
 }
 
-/// The word list of a text that is made of parts: by the engine where it takes the text, and otherwise by [`list_of`], which reports its progress in bytes.
-pub fn word_list(
-    letters: &Letters,
-    text: &[u8],
-    parts: &[&[u8]],
-    progress: impl FnMut(usize),
-) -> Result<Vec<u8>, Refused> {
-    if text.len() > MAX_LIST_TEXT {
-        return Ok(list_of(letters, parts, progress));
+/// The word list of a text: by the engine where it takes the text, and otherwise by [`list_of`], which reports its progress in bytes.
+pub fn word_list(letters: &Letters, text: &[u8], progress: impl Fn(usize) + Sync) -> Result<Vec<u8>, Fault> {
+    if text.len() <= MAX_LIST_TEXT {
+        match make_list_with(letters, text) {
+            Ok(made) => return Ok(made.list),
+            Err(Refused { refusal: Refusal::ListMaking, .. }) => {}
+            Err(refused) => return Err(Fault::engine("the letters", refused)),
+        }
     }
-    match make_list_with(letters, text) {
-        Ok(made) => Ok(made.list),
-        Err(Refused { refusal: Refusal::ListMaking, .. }) => Ok(list_of(letters, parts, progress)),
+    Ok(list_of(letters, text, &progress)?)
+}
+
+/// The ranks of the words of a text by a word list, as the engine reads them, one half of the text on a thread of its own: it is cut at a separator, so that no word
+/// is. Where a word is not listed, the byte at which the first such word starts is counted in the whole text.
+pub fn read_halves(letters: &Letters, list: &[u8], text: &[u8]) -> io::Result<Result<Vec<u32>, Refused>> {
+    let at = separator_from(letters, text, text.len() / 2);
+    let (first, second) = text.split_at(at);
+    let (there, here) = both(|| read_text_with(letters, list, second), || read_text_with(letters, list, first))?;
+    Ok(here.and_then(|mut ranks| match there {
+        Ok(behind) => {
+            ranks.extend(behind);
+            Ok(ranks)
+        }
+        Err(Refused { refusal: Refusal::Unlisted, value }) => {
+            Err(Refused { refusal: Refusal::Unlisted, value: at + value })
+        }
         Err(refused) => Err(refused),
-    }
+    }))
+}
+
+/// The first separator of a text from a byte on; the end of the text where there is none.
+fn separator_from(letters: &Letters, text: &[u8], from: usize) -> usize {
+    let ahead = text[from..].iter().position(|&byte| letters.fold(byte).is_none());
+    ahead.map_or(text.len(), |ahead| from + ahead)
 }
 
 /// A hash of a word, eight bytes at a time: quick, and good enough for words.
@@ -74,28 +96,60 @@ impl Hasher for WordHasher {
     }
 }
 
-/// The distinct words of the parts of a text, the most frequent first and equally frequent ones by their first appearance, each closed by 0A.
-pub fn list_of(letters: &Letters, parts: &[&[u8]], mut progress: impl FnMut(usize)) -> Vec<u8> {
-    let mut numbers: HashMap<Box<[u8]>, usize, BuildHasherDefault<WordHasher>> = HashMap::default();
-    let mut counts: Vec<u32> = Vec::new();
-    for part in parts {
-        each_word(letters, part, |word| match numbers.get(word) {
-            Some(&number) => counts[number] += 1,
-            None => {
-                numbers.insert(word.into(), counts.len());
-                counts.push(1);
-            }
-        });
-        progress(part.len());
+/// The distinct words of a text, numbered by their first appearance, and how often each stands.
+#[derive(Default)]
+struct Tally {
+    numbers: HashMap<Box<[u8]>, usize, BuildHasherDefault<WordHasher>>,
+    counts: Vec<u32>,
+}
+
+impl Tally {
+    /// The words of a text, of which about this many bytes are gone through at a time, and then reported.
+    fn of(letters: &Letters, mut text: &[u8], progress: &(impl Fn(usize) + Sync)) -> Tally {
+        const PART: usize = 1 << 20;
+        let mut tally = Tally::default();
+        while !text.is_empty() {
+            let (part, rest) = text.split_at(separator_from(letters, text, PART.min(text.len())));
+            each_word(letters, part, |word| tally.add(word, 1));
+            progress(part.len());
+            text = rest;
+        }
+        tally
     }
-    let mut words: Vec<(&[u8], usize)> = numbers.iter().map(|(word, &number)| (&word[..], number)).collect();
-    words.sort_unstable_by_key(|&(_, number)| (Reverse(counts[number]), number));
+
+    /// Counts a word so many times more.
+    fn add(&mut self, word: &[u8], times: u32) {
+        match self.numbers.get(word) {
+            Some(&number) => self.counts[number] += times,
+            None => {
+                self.numbers.insert(word.into(), self.counts.len());
+                self.counts.push(times);
+            }
+        }
+    }
+
+    /// The words in the order of a key of their number and count, each with its count.
+    fn sorted_by<K: Ord>(&self, key: impl Fn(usize, u32) -> K) -> Vec<(&[u8], u32)> {
+        let mut words: Vec<(&[u8], usize)> = self.numbers.iter().map(|(word, &number)| (&word[..], number)).collect();
+        words.sort_unstable_by_key(|&(_, number)| key(number, self.counts[number]));
+        words.into_iter().map(|(word, number)| (word, self.counts[number])).collect()
+    }
+}
+
+/// The distinct words of a text, the most frequent first and equally frequent ones by their first appearance, each closed by 0A. One half of the text is
+/// gone through on a thread of its own.
+pub fn list_of(letters: &Letters, text: &[u8], progress: &(impl Fn(usize) + Sync)) -> io::Result<Vec<u8>> {
+    let (first, second) = text.split_at(separator_from(letters, text, text.len() / 2));
+    let (behind, mut tally) = both(|| Tally::of(letters, second, progress), || Tally::of(letters, first, progress))?;
+    for (word, times) in behind.sorted_by(|number, _| number) {
+        tally.add(word, times);
+    }
     let mut list = Vec::new();
-    for (word, _) in words {
+    for (word, _) in tally.sorted_by(|number, count| (Reverse(count), number)) {
         list.extend_from_slice(word);
         list.push(CLOSING);
     }
-    list
+    Ok(list)
 }
 
 /// The words of a list by their ranks.
@@ -195,8 +249,22 @@ mod tests {
         let letters = Letters::built_in();
         for text in small_texts() {
             let made = make_list(&text).unwrap();
-            assert_eq!(list_of(&letters, &[&text], |_| ()), made.list);
+            assert_eq!(list_of(&letters, &text, &|_| ()).unwrap(), made.list);
+            let ranks =
+                if made.list.is_empty() { Ok(vec![]) } else { read_halves(&letters, &made.list, &text).unwrap() };
+            assert_eq!(ranks, Ok(made.ranks.clone()));
             assert_eq!(count_words(&letters, &text), made.ranks.len());
+        }
+    }
+
+    #[test]
+    fn finds_the_first_unlisted_word_in_either_half() {
+        let letters = Letters::built_in();
+        for (text, value) in
+            [(&b"a b c d"[..], 6), (b"a d b d", 2), (b"d", 0), (b"a b c a b cd", 10), (b"aaaaaaaaaaaad", 0)]
+        {
+            let refused = Refused { refusal: Refusal::Unlisted, value };
+            assert_eq!(read_halves(&letters, b"a\nb\nc\n", text).unwrap(), Err(refused));
         }
     }
 

@@ -1,16 +1,17 @@
 //! `concord documents`: how often a phrase stands in each document.
 use super::{found, remark};
 use crate::args::DocumentsArguments;
-use crate::collection::{both, Collection};
+use crate::collection::Collection;
 use crate::fault::Fault;
 use crate::output::{say, Colour, Output};
+use crate::threads::both;
 use crate::Found;
 use std::io::Write;
 
 /// Prints the count of a phrase by document, and their sum, which is the count of the phrase.
 pub fn run(given: &DocumentsArguments, pager: bool) -> Result<Found, Fault> {
     let (collection, phrase) = Collection::ask(&given.asked.index, &given.asked.phrase())?;
-    let (count, counts) = both(|| collection.count(&phrase), || collection.documents().summary(&phrase.ranks));
+    let (count, counts) = both(|| collection.count(&phrase), || collection.documents().summary(&phrase.ranks))?;
     let counts = counts.map_err(|refused| collection.turned(refused))?;
     let count = count?;
     if counts.iter().map(|&count| count as usize).sum::<usize>() != count {

@@ -6,9 +6,9 @@ use crate::file::{image, is_index_at, write, Contents};
 use crate::gather::{files_below, read, Gathered};
 use crate::output::{say, Output};
 use crate::recode::Recoding;
-use crate::spelling::{broken_line, count_words, each_word, word_list};
+use crate::spelling::{broken_line, count_words, each_word, read_halves, word_list};
 use crate::Found;
-use concordance::{read_text_with, Index, Letters, Refusal, Refused, Shape};
+use concordance::{Index, Letters, Refusal, Refused, Shape};
 use indicatif::ProgressBar;
 use std::ffi::OsString;
 use std::fs;
@@ -35,9 +35,9 @@ pub fn run(given: &IndexArguments) -> Result<Found, Fault> {
     }
     let list = match &given.list {
         Some(path) => list_in(path, &recoding)?,
-        None => made_list(&gathered, &table, &given.folder)?,
+        None => made_list(&gathered, &table)?,
     };
-    let ranks = waiting("reading by the word list", || read_text_with(&table, &list, &gathered.text))
+    let ranks = waiting("reading by the word list", || read_halves(&table, &list, &gathered.text))?
         .map_err(|refused| unread(refused, given, &gathered, &table, &recoding, &list))?;
     let (starts, names) = documents(&gathered, &table, ranks.len())?;
 
@@ -144,11 +144,11 @@ fn with_line_ends(text: &[u8]) -> Vec<u8> {
 }
 
 /// The word list that is made of the letters.
-fn made_list(gathered: &Gathered, letters: &Letters, folder: &Path) -> Result<Vec<u8>, Fault> {
+fn made_list(gathered: &Gathered, letters: &Letters) -> Result<Vec<u8>, Fault> {
     let bar = progress("making the word list", gathered.text.len());
-    let list = word_list(letters, &gathered.text, &gathered.parts(), |bytes| bar.inc(bytes as u64));
+    let list = word_list(letters, &gathered.text, |bytes| bar.inc(bytes as u64));
     bar.finish_and_clear();
-    list.map_err(|refused| Fault::engine(folder.display(), refused))
+    list
 }
 
 /// Why the letters could not be read by the list: the line of the list that breaks a rule, or the first word that the list lacks.

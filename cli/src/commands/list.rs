@@ -2,10 +2,11 @@
 use super::context::{contexts, Context};
 use super::{found, progress, remark};
 use crate::args::{ListArguments, Side};
-use crate::collection::{both, Collection, Phrase};
+use crate::collection::{Collection, Phrase};
 use crate::fault::Fault;
 use crate::output::{say, Colour, Output};
 use crate::spelling::{dictionary_key, Spellings};
+use crate::threads::both;
 use crate::Found;
 use concordance::Listing;
 use std::collections::HashMap;
@@ -62,7 +63,7 @@ fn places(
 fn page(collection: &Collection, phrase: &Phrase, given: &ListArguments) -> Result<Lines, Fault> {
     let next = given.next.unwrap_or(0);
     let lines = if given.all { usize::MAX } else { given.lines.unwrap_or(LINES) };
-    let (count, page) = both(|| collection.count(phrase), || places(collection, phrase, next, lines));
+    let (count, page) = both(|| collection.count(phrase), || places(collection, phrase, next, lines))?;
     let count = count?;
     let (here, after) = page?;
     let before = match next {
