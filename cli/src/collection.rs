@@ -14,7 +14,7 @@ use std::path::Path;
 /// How many questions are asked at a time: the check is made once for each time.
 const SHEET: usize = 1 << 20;
 
-/// An index file whose checksum was tried. The engine's own tests are made by each of its calls.
+/// An index file that is opened. The engine's own tests are made by each of its calls.
 pub struct Collection {
     file: IndexFile,
     name: String,
@@ -24,10 +24,10 @@ pub struct Collection {
 
 /// A typed phrase.
 pub struct Phrase {
-    /// The ranks of its words; V for a word that stands nowhere.
+    /// The ranks of its words; V for a word that the list lacks.
     pub ranks: Vec<u32>,
-    /// Its words that are in no letter, as they were typed.
-    pub absent: Vec<String>,
+    /// Its words as they were typed.
+    words: Vec<String>,
 }
 
 /// A typed word: as it was typed, and its letters, none if one of them has no place in the set.
@@ -99,6 +99,15 @@ impl Collection {
     /// How often a phrase stands.
     pub fn count(&self, phrase: &Phrase) -> Result<usize, Fault> {
         self.documents().count(&phrase.ranks).map_err(|refused| self.turned(refused))
+    }
+
+    /// The words of a phrase that stand nowhere, as they were typed.
+    pub fn absent_words<'a>(&self, phrase: &'a Phrase) -> Result<Vec<&'a str>, Fault> {
+        let end = self.documents().words();
+        let asked = phrase.ranks.iter().map(|&rank| Question::occurrences_below(rank, end));
+        let counts = self.answers(asked, |_| ())?;
+        let absent = phrase.words.iter().zip(counts).filter(|&(_, count)| count == 0);
+        Ok(absent.map(|(word, _)| word.as_str()).collect())
     }
 
     /// The names of the documents.
@@ -191,41 +200,37 @@ impl Collection {
             let why = "refused. The sign * is kept for open words, which this version does not have; leave it out.";
             return Err(Fault::about("the phrase", why));
         }
-        let words = self.typed_words(typed);
+        let typed = self.typed_words(typed);
+        let words: Vec<String> = typed.iter().map(|word| word.shown.clone()).collect();
         if words.len() > Question::MAX_PHRASE {
             // The engine refuses it whatever its words are, so that they need not be found.
-            return Ok(Phrase { ranks: vec![self.absent(); words.len()], absent: Vec::new() });
+            return Ok(Phrase { ranks: vec![self.absent(); words.len()], words });
         }
-        let listed: Option<Vec<&[u8]>> = words.iter().map(|word| word.letters.as_deref()).collect();
+        let listed: Option<Vec<&[u8]>> = typed.iter().map(|word| word.letters.as_deref()).collect();
         if let Some(listed) = listed {
             match read_text_with(&self.letters, self.contents().list, &listed.join(&b'\n')) {
-                Ok(ranks) => return Ok(Phrase { ranks, absent: Vec::new() }),
+                Ok(ranks) => return Ok(Phrase { ranks, words }),
                 Err(Refused { refusal: Refusal::Unlisted, .. }) => {}
                 Err(refused) => return Err(self.turned(refused)),
             }
         }
-        self.words_one_by_one(words)
+        Ok(Phrase { ranks: self.ranks_one_by_one(&typed)?, words })
     }
 
-    /// The ranks of typed words, each found by itself.
-    fn words_one_by_one(&self, words: Vec<TypedWord>) -> Result<Phrase, Fault> {
-        let list = self.contents().list;
-        let known = self.spellings().len() as u32;
+    /// The ranks of typed words, each found by itself; V for one that the list lacks.
+    fn ranks_one_by_one(&self, words: &[TypedWord]) -> Result<Vec<u32>, Fault> {
         self.try_list()?;
-        let mut phrase = Phrase { ranks: Vec::new(), absent: Vec::new() };
-        for word in words {
-            let rank = match &word.letters {
-                Some(letters) => {
-                    find_word_with(&self.letters, list, letters).map_err(|refused| self.turned(refused))?
-                }
-                None => known,
-            };
-            if rank == known {
-                phrase.absent.push(word.shown);
-            }
-            phrase.ranks.push(if rank == known { self.absent() } else { rank });
-        }
-        Ok(phrase)
+        let list = self.contents().list;
+        let listed = self.spellings().len() as u32;
+        let rank_of = |word: &TypedWord| match &word.letters {
+            Some(letters) => match find_word_with(&self.letters, list, letters) {
+                Ok(rank) if rank < listed => Ok(rank),
+                Ok(_) => Ok(self.absent()),
+                Err(refused) => Err(self.turned(refused)),
+            },
+            None => Ok(self.absent()),
+        };
+        words.iter().map(rank_of).collect()
     }
 
     /// The words of a typed phrase: runs of letters, those included that have no place in the set.

@@ -464,7 +464,7 @@ fn a_word_list_that_does_not_fit_the_text_is_refused() {
     assert!(said(&checked).contains("[9]"), "{checked:?}");
     folder.run(&["words", "long"]).refused_with(&["long", "refused", "[9]"]);
     folder.run(&["count", "long", "more5"]).refused_with(&["long", "refused", "[9]"]);
-    assert_eq!(folder.run(&["count", "long", "more3"]).nothing(), "0\n");
+    assert!(folder.run(&["count", "long", "more3"]).nothing().contains("\"more3\""));
     assert_eq!(folder.run(&["count", "long", "sea"]).answer(), "3\n");
 }
 

@@ -82,6 +82,22 @@ fn an_empty_file_is_left_out() {
     assert_eq!(rows(&folder, &["documents", "i", "two", "--all"]), ["1\ta", "1\td"]);
 }
 
+/// Letters without a word and a list are an empty text, of which everything can be asked; a word that the list has and no letter uses is named.
+#[test]
+fn an_empty_text_answers_everything() {
+    let folder = letters("empty-text", &[("a.txt", " \u{2014} ... \n")]);
+    folder.write("list", "sea\nsand\n");
+    let run = index(&folder, &["--list", "list"]);
+    assert_eq!(run.answer(), "0 documents, 0 words, 0 different; 0 node bytes\n");
+    assert!(folder.run(&["check", "i"]).answer().contains("one text of 0 words"));
+    assert_eq!(folder.run(&["count", "i", "sea"]).nothing(), "0   (no letter has the word \"sea\")\n");
+    assert!(folder.run(&["list", "i", "sea sand"]).nothing().contains("\"sea\" or \"sand\""));
+    assert!(folder.run(&["words", "i"]).nothing().starts_with("0 of 0 "));
+    assert!(folder.run(&["documents", "i", "sea"]).nothing().contains("0  in 0 of 0 documents"));
+    assert!(folder.run(&["neighbours", "i", "sea"]).nothing().starts_with("0 "));
+    assert_eq!(folder.run(&["text", "i"]).nothing(), "");
+}
+
 /// Letters without a word are refused with [1], and nothing is written.
 #[test]
 fn letters_without_a_word_are_refused() {
@@ -403,11 +419,12 @@ fn a_word_list_is_taken() {
         "\u{E9}t\u{E9}\nof\nsand\nthe\nand\n",
         "\u{FEFF}\u{E9}t\u{E9}\r\nof\r\nsand\r\nthe\r\nand\r\n",
         "\u{E9}t\u{E9}\nof\nsand\nthe\nand",
+        "\u{E9}t\u{E9}\rof\rsand\rthe\rand\r",
     ] {
         folder.write("list", list);
         assert!(index(&folder, &["--list", "list"]).answer().starts_with("1 document, 5 words, 4 different; "));
         assert_eq!(rows(&folder, &["words", "i", "--all"]), ["2\tthe", "1\t\u{E9}t\u{E9}", "1\tsand", "1\tand"]);
-        assert_eq!(folder.run(&["count", "i", "of"]).nothing(), "0\n");
+        assert_eq!(folder.run(&["count", "i", "of"]).nothing(), "0   (no letter has the word \"of\")\n");
     }
 }
 

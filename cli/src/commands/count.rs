@@ -11,8 +11,9 @@ use std::io::Write;
 pub fn run(asked: &Asked) -> Result<Found, Fault> {
     let (collection, phrase) = Collection::ask(&asked.index, &asked.phrase())?;
     let count = collection.count(&phrase)?;
+    let remark = remark(&collection, &phrase, count)?;
     let mut out = Output::open(false, false);
-    writeln!(out, "{count}{}", remark(&phrase))?;
+    writeln!(out, "{count}{remark}")?;
     out.close()?;
     Ok(found(count))
 }

@@ -19,7 +19,8 @@ pub fn run(given: &DocumentsArguments, pager: bool) -> Result<Found, Fault> {
             .refused("The counts by document do not add up. This is a fault of the program; please report it."));
     }
     let with = counts.iter().filter(|&&count| count > 0).count();
-    let closing = format!("{count:>6}  in {with} of {} documents{}", counts.len(), remark(&phrase));
+    let closing =
+        format!("{count:>6}  in {with} of {} documents{}", counts.len(), remark(&collection, &phrase, count)?);
     let mut out = Output::open(given.tsv, pager);
     if given.tsv {
         writeln!(out, "count\tdocument")?;

@@ -41,7 +41,7 @@ pub fn run(given: &IndexArguments) -> Result<Found, Fault> {
         .map_err(|refused| unread(refused, given, &gathered, &table, &recoding, &list))?;
     let (starts, names) = documents(&gathered, &table, ranks.len())?;
 
-    let shape = Shape { vocabulary: given.room, ..Shape::for_text(given.room) };
+    let shape = Shape::for_text(given.room);
     let index = waiting("building the index", || Index::build(shape, &ranks))
         .map_err(|refused| Fault::engine(given.folder.display(), refused))?;
     let letters = letters.as_ref().map_or(&[][..], |letters| letters.table());

@@ -71,7 +71,7 @@ fn page(collection: &Collection, phrase: &Phrase, given: &ListArguments) -> Resu
         _ => places(collection, phrase, 0, count.max(1))?.0.partition_point(|&place| (place as usize) < next),
     };
     let closing = match here.len() {
-        0 if count == 0 => format!("0{}", remark(phrase)),
+        0 if count == 0 => format!("0{}", remark(collection, phrase, count)?),
         0 => format!("no line of {count} from place {next} on"),
         lines => {
             let after = after.map_or(String::new(), |after| format!("; next page: --next {after}"));
@@ -106,7 +106,7 @@ fn sorted(collection: &Collection, phrase: &Phrase, given: &ListArguments, side:
     });
     contexts.truncate(asked);
     let closing = match contexts.len() {
-        0 => format!("0{}", remark(phrase)),
+        0 => format!("0{}", remark(collection, phrase, count)?),
         lines => format!("{} of {count}, sorted", numbered(1, lines)),
     };
     Ok(Lines { contexts, closing })

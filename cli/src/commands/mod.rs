@@ -11,14 +11,13 @@ mod text;
 mod words;
 
 use crate::args::{Arguments, Command};
-use crate::collection::Phrase;
+use crate::collection::{Collection, Phrase};
 use crate::fault::Fault;
 use crate::output::Output;
 use crate::Found;
 use clap::CommandFactory;
 use indicatif::{ProgressBar, ProgressStyle};
-use std::fmt::Write as _;
-use std::io::Write as _;
+use std::io::Write;
 
 /// Runs a command.
 pub fn run(arguments: Arguments) -> Result<Found, Fault> {
@@ -52,20 +51,19 @@ fn found(count: usize) -> Found {
     }
 }
 
-/// Behind a count: which words of the phrase are in no letter, or that it has no words; nothing where neither is so.
-fn remark(phrase: &Phrase) -> String {
+/// Behind a count: that a phrase has no words, or which of its words are in no letter; nothing where neither is so.
+fn remark(collection: &Collection, phrase: &Phrase, count: usize) -> Result<String, Fault> {
     if phrase.ranks.is_empty() {
-        return "   (a phrase of no words stands at every place, the end of the text included)".to_owned();
+        return Ok("   (a phrase of no words stands at every place, the end of the text included)".to_owned());
     }
-    let mut line = String::new();
-    for (at, word) in phrase.absent.iter().enumerate() {
-        let begins = if at == 0 { "   (no letter has the word" } else { " or" };
-        let _ = write!(line, "{begins} \"{word}\"");
+    if count > 0 {
+        return Ok(String::new());
     }
-    if !line.is_empty() {
-        line.push(')');
+    let absent: Vec<String> = collection.absent_words(phrase)?.into_iter().map(|word| format!("\"{word}\"")).collect();
+    match absent.is_empty() {
+        true => Ok(String::new()),
+        false => Ok(format!("   (no letter has the word {})", absent.join(" or "))),
     }
-    line
 }
 
 /// A number and what is counted, in the plural where that is right.

@@ -28,10 +28,11 @@ pub fn run(given: &NeighboursArguments, pager: bool) -> Result<Found, Fault> {
         return Err(Fault::about("the phrase", "refused. Neighbours are those of one word; give one word."));
     };
     let (table, count) = table(&collection, word, given)?;
+    let remark = remark(&collection, &phrase, count)?;
     let mut out = Output::open(given.tsv, pager);
     match given.tsv {
         true => print_table(&mut out, &collection, &table)?,
-        false if count == 0 => writeln!(out, "0{}", remark(&phrase))?,
+        false if count == 0 => writeln!(out, "0{remark}")?,
         false => print_columns(&mut out, &collection, &table)?,
     }
     out.close()?;
