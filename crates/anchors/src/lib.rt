@@ -5,12 +5,12 @@
 // No function of this crate is an entry: each requires that the four slices have passed the check,
 // and `starts` is the table that `starts::node_starts` fills.
 ghost use Rattle.std.specs.Prelude.{◌≡◌, ◌≤◌, ◌<◌, length};
-ghost use Rattle.base.specs.Texts.{maxWords};
-ghost use Rattle.index.specs.Arrays.{Arrays, arrays, textIn};
+ghost use Rattle.base.specs.Texts.{max_words};
+ghost use Rattle.index.specs.Arrays.{Arrays, arrays, text_in};
 ghost use Rattle.words.specs.Ready.{Ready};
 ghost use Rattle.matching.specs.Searching.{Searchable, Paired};
 ghost use Rattle.anchors.specs.Anchors.{Rarest, AnchorOf};
-ghost use Rattle.anchors.specs.Seconds.{secondAt, SecondOf};
+ghost use Rattle.anchors.specs.Seconds.{second_at, SecondOf};
 
 use index::Shape;
 use matching::Sought;
@@ -40,7 +40,7 @@ fn rarest(
     ghost a: { Arrays }
     requires blocks_value { arrays lengths.now bytes.now superblocks.now blocks.now ≡ a }
     requires searchable { Searchable s shape a starts.now words.now }
-    ensures { Rarest (textIn s a) words.now result }
+    ensures { Rarest (text_in s a) words.now result }
 {
     let mut rare: usize = 0;
     let first = words[0] as usize;
@@ -147,8 +147,8 @@ fn rarest_beside(
 // The second word of a pair at an offset in a text of n words: the anchor itself where no two words
 // of the text stand so far apart.
 fn second_at(offset: i32, n: usize) -> Second
-    requires { n ≤ maxWords }
-    ensures { result ≡ secondAt offset n }
+    requires { n ≤ max_words }
+    ensures { result ≡ second_at offset n }
 {
     let after = phrases::shifted(Place(0), offset, n);
     if let Found::At(place) = after {
@@ -190,7 +190,7 @@ pub fn second_of(
     ghost a: { Arrays }
     requires blocks_value { arrays lengths.now bytes.now superblocks.now blocks.now ≡ a }
     requires searchable { Searchable s shape a starts.now words.now × Paired words.now sought × AnchorOf words.now sought anchor × (anchor < length words.now) }
-    ensures { SecondOf (textIn s a) words.now sought anchor result }
+    ensures { SecondOf (text_in s a) words.now sought anchor result }
 {
     match sought {
         Sought::Phrase => {

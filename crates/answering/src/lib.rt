@@ -3,10 +3,10 @@
 //
 // No function of this crate is an entry: each requires what its callers have tested.
 ghost use Rattle.std.specs.Prelude.{◌≡◌, true};
-ghost use Rattle.index.specs.Arrays.{Arrays, arrays, textIn};
+ghost use Rattle.index.specs.Arrays.{Arrays, arrays, text_in};
 ghost use Rattle.words.specs.Ready.{Ready};
-ghost use Rattle.documents.specs.Documents.{isAscending};
-ghost use Rattle.questions.specs.Answering.{wordAtAnswer, occurrencesAnswer, placeAnswer, neighboursAnswer, phraseAnswer, questionAnswer};
+ghost use Rattle.documents.specs.Documents.{is_ascending};
+ghost use Rattle.questions.specs.Answering.{word_at_answer, occurrences_answer, place_answer, neighbours_answer, phrase_answer, question_answer};
 
 use base::{Answer, refusal};
 use index::Shape;
@@ -27,7 +27,7 @@ fn answer_word_at(
     ghost a: { Arrays }
     requires blocks_value { arrays lengths.now bytes.now superblocks.now blocks.now ≡ a }
     requires ready { Ready s shape a starts.now }
-    ensures { result ≡ wordAtAnswer (textIn s a) place }
+    ensures { result ≡ word_at_answer (text_in s a) place }
 {
     if words::text_length(lengths) <= place {
         return Answer::refused(refusal::PLACE);
@@ -60,7 +60,7 @@ fn answer_occurrences(
     ghost a: { Arrays }
     requires blocks_value { arrays lengths.now bytes.now superblocks.now blocks.now ≡ a }
     requires ready { Ready s shape a starts.now }
-    ensures { result ≡ occurrencesAnswer shape.vocabulary (textIn s a) rank place }
+    ensures { result ≡ occurrences_answer shape.vocabulary (text_in s a) rank place }
 {
     if shape.vocabulary < rank {
         return Answer::refused(refusal::ASKED_RANK);
@@ -99,7 +99,7 @@ fn answer_place(
     ghost a: { Arrays }
     requires blocks_value { arrays lengths.now bytes.now superblocks.now blocks.now ≡ a }
     requires ready { Ready s shape a starts.now }
-    ensures { result ≡ placeAnswer shape.vocabulary (textIn s a) rank p }
+    ensures { result ≡ place_answer shape.vocabulary (text_in s a) rank p }
 {
     if shape.vocabulary < rank {
         return Answer::refused(refusal::ASKED_RANK);
@@ -159,8 +159,8 @@ fn answer_neighbours(
 ) -> Answer
     ghost a: { Arrays }
     requires blocks_value { arrays lengths.now bytes.now superblocks.now blocks.now ≡ a }
-    requires ready { Ready s shape a starts.now × (isAscending documents.now ≡ true) }
-    ensures { result ≡ neighboursAnswer shape.vocabulary (textIn s a) documents.now w v offset }
+    requires ready { Ready s shape a starts.now × (is_ascending documents.now ≡ true) }
+    ensures { result ≡ neighbours_answer shape.vocabulary (text_in s a) documents.now w v offset }
 {
     if shape.vocabulary < w as usize {
         return Answer::refused(refusal::ASKED_RANK);
@@ -211,8 +211,8 @@ fn answer_phrase(
 ) -> Answer
     ghost a: { Arrays }
     requires blocks_value { arrays lengths.now bytes.now superblocks.now blocks.now ≡ a }
-    requires ready { Ready s shape a starts.now × (isAscending documents.now ≡ true) }
-    ensures { result ≡ phraseAnswer shape.vocabulary (textIn s a) documents.now words.now start count }
+    requires ready { Ready s shape a starts.now × (is_ascending documents.now ≡ true) }
+    ensures { result ≡ phrase_answer shape.vocabulary (text_in s a) documents.now words.now start count }
 {
     if count == 0 {
         return phrase_checks::answer_no_words(words, start, words::text_length(lengths));
@@ -253,8 +253,8 @@ pub fn answer(
 ) -> Answer
     ghost a: { Arrays }
     requires blocks_value { arrays lengths.now bytes.now superblocks.now blocks.now ≡ a }
-    requires ready { Ready s shape a starts.now × (isAscending documents.now ≡ true) }
-    ensures { result ≡ questionAnswer shape.vocabulary (textIn s a) documents.now words.now question }
+    requires ready { Ready s shape a starts.now × (is_ascending documents.now ≡ true) }
+    ensures { result ≡ question_answer shape.vocabulary (text_in s a) documents.now words.now question }
 {
     let kind = question.kind;
     let w = question.w as usize;

@@ -3,8 +3,8 @@
 ghost use Rattle.std.specs.Prelude.{◌≡◌};
 ghost use Rattle.dense.specs.Code.{Closing};
 ghost use Rattle.index.specs.Arrays.{arrays};
-ghost use Rattle.questions.specs.Answering.{askAnswerIn, askAnswer};
-ghost use Rattle.questions.specs.Passages.{passageAnswer, passageExit};
+ghost use Rattle.questions.specs.Answering.{ask_answer_in, ask_answer};
+ghost use Rattle.questions.specs.Passages.{passage_answer, passage_exit};
 
 use base::{Answer, refusal};
 use index::Shape;
@@ -25,7 +25,7 @@ pub fn ask_in_documents_of(
     question: Question,
 ) -> Answer
     requires { Closing s }
-    ensures { result ≡ askAnswerIn s shape (arrays lengths.now bytes.now superblocks.now blocks.now) documents.now words.now question }
+    ensures { result ≡ ask_answer_in s shape (arrays lengths.now bytes.now superblocks.now blocks.now) documents.now words.now question }
 {
     let checked = document_checks::check_in_documents(
         s,
@@ -71,7 +71,7 @@ pub fn ask_of(
     question: Question,
 ) -> Answer
     requires { Closing s }
-    ensures { result ≡ askAnswer s shape (arrays lengths.now bytes.now superblocks.now blocks.now) words.now question }
+    ensures { result ≡ ask_answer s shape (arrays lengths.now bytes.now superblocks.now blocks.now) words.now question }
 {
     let zero = [0u32; 1];
     ask_in_documents_of(
@@ -99,7 +99,7 @@ pub fn ask_in_documents(
     words: &[u32],
     question: Question,
 ) -> Answer
-    ensures { result ≡ askAnswerIn 128 shape (arrays lengths.now bytes.now superblocks.now blocks.now) documents.now words.now question }
+    ensures { result ≡ ask_answer_in 128 shape (arrays lengths.now bytes.now superblocks.now blocks.now) documents.now words.now question }
 {
     ask_in_documents_of(
         dense::CLOSING,
@@ -125,7 +125,7 @@ pub fn ask(
     words: &[u32],
     question: Question,
 ) -> Answer
-    ensures { result ≡ askAnswer 128 shape (arrays lengths.now bytes.now superblocks.now blocks.now) words.now question }
+    ensures { result ≡ ask_answer 128 shape (arrays lengths.now bytes.now superblocks.now blocks.now) words.now question }
 {
     ask_of(
         dense::CLOSING,
@@ -151,7 +151,7 @@ pub fn passage_of(
     ranks: &mut [u32],
 ) -> Answer
     requires { Closing s }
-    ensures { (result ≡ passageAnswer s shape (arrays lengths.now bytes.now superblocks.now blocks.now) place ranks.old) × (ranks.new ≡ passageExit s shape (arrays lengths.now bytes.now superblocks.now blocks.now) place ranks.old) }
+    ensures { (result ≡ passage_answer s shape (arrays lengths.now bytes.now superblocks.now blocks.now) place ranks.old) × (ranks.new ≡ passage_exit s shape (arrays lengths.now bytes.now superblocks.now blocks.now) place ranks.old) }
 {
     let checked = checking::check_of(s, shape, lengths, bytes, superblocks, blocks);
     if checked.refusal != 0 {
@@ -192,7 +192,7 @@ pub fn passage(
     place: usize,
     ranks: &mut [u32],
 ) -> Answer
-    ensures { (result ≡ passageAnswer 128 shape (arrays lengths.now bytes.now superblocks.now blocks.now) place ranks.old) × (ranks.new ≡ passageExit 128 shape (arrays lengths.now bytes.now superblocks.now blocks.now) place ranks.old) }
+    ensures { (result ≡ passage_answer 128 shape (arrays lengths.now bytes.now superblocks.now blocks.now) place ranks.old) × (ranks.new ≡ passage_exit 128 shape (arrays lengths.now bytes.now superblocks.now blocks.now) place ranks.old) }
 {
     passage_of(
         dense::CLOSING,

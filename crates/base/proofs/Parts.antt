@@ -12,14 +12,14 @@ use Rattle.base.proofs.Tests.{below_or_not}
 -- ---- quotients
 
 -- r is among the numbers up to n / m where r × m is at most n
-pub quotient-inside : (n m r : ℕ) → 1 ≤ m → r * m ≤ n → r < suc (n / m)
-quotient-inside n m r p h =
+pub quotient_inside : (n m r : ℕ) → 1 ≤ m → r * m ≤ n → r < suc (n / m)
+quotient_inside n m r p h =
     let l : r ≤ n / m = (le-div_iff_mul-le p).1 h in
     omega arith
 
 -- and r × m is at most n where r is among them
-pub inside-quotient : (n m r : ℕ) → 1 ≤ m → r < suc (n / m) → r * m ≤ n
-inside-quotient n m r p h =
+pub inside_quotient : (n m r : ℕ) → 1 ≤ m → r < suc (n / m) → r * m ≤ n
+inside_quotient n m r p h =
     let l : r ≤ n / m = omega arith in
     (le-div_iff_mul-le p).0 l
 
@@ -38,9 +38,9 @@ part_cut xs s n stop h e = go (below_or_not (s + n) (length xs))
 -- ---- neighbouring parts
 
 -- the elements from a to before b, and the n after them
-pub slice-more : (a b n : ℕ) (xs : List ℕ) → a ≤ b → a ≤ length xs → slice a b xs ++ take n (drop b xs) ≡ slice a (b + n) xs
-slice-more a b n xs h l = sym (ap (drop a) (take-add b n xs) ∙ drop-append-le a (take b xs) (take n (drop b xs)) (omega (arith, length-take b xs)))
+pub slice_more : (a b n : ℕ) (xs : List ℕ) → a ≤ b → a ≤ length xs → slice a b xs ++ take n (drop b xs) ≡ slice a (b + n) xs
+slice_more a b n xs h l = sym (ap (drop a) (take-add b n xs) ∙ drop-append-le a (take b xs) (take n (drop b xs)) (omega (arith, length-take b xs)))
 
 -- the first a elements, and those from a to before b
-pub take-slice : (a b : ℕ) (xs : List ℕ) → a ≤ b → take a xs ++ slice a b xs ≡ take b xs
-take-slice a b xs h = ap (λ (t : List ℕ). t ++ slice a b xs) (sym (take-take a b xs h)) ∙ take-append-drop a (take b xs)
+pub take_slice : (a b : ℕ) (xs : List ℕ) → a ≤ b → take a xs ++ slice a b xs ≡ take b xs
+take_slice a b xs h = ap (λ (t : List ℕ). t ++ slice a b xs) (sym (take-take a b xs h)) ∙ take-append-drop a (take b xs)

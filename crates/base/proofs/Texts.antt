@@ -7,49 +7,49 @@ use native.Mathlib.Omega.{arith}
 use borrow.Author.Tests.{ltb-true, lt-ltb, leb-true, le-leb}
 use lib.Dec.{ltb, leb}
 use lib.ListN.{length}
-use Rattle.base.specs.Lists.{Below, firstWhere}
-use Rattle.base.specs.Texts.{maxWords, ranksBelow, isText}
-use Rattle.base.proofs.Tests.{and_left, and_right, and-true, false_of, leb-not}
-use Rattle.base.proofs.Lists.{all-imp, all-of-pass, pass-of-all, first-where-inside, first-where-length}
+use Rattle.base.specs.Lists.{Below, first_where}
+use Rattle.base.specs.Texts.{max_words, ranks_below, is_text}
+use Rattle.base.proofs.Tests.{and_left, and_right, and_true, false_of, leb_not}
+use Rattle.base.proofs.Lists.{all_imp, all_of_pass, pass_of_all, first_where_inside, first_where_length}
 
 -- the test holds exactly if every rank is below V
-pub below-of-test : (v : ℕ) (t : List ℕ) → ranksBelow v t ≡ true → Below v t
-unfolding ranksBelow
-below-of-test v t e = all-imp (λ (w : ℕ). ltb w v ≡ true) (λ (w : ℕ). w < v) (λ w q. ltb-true w v q) t (all-of-pass (λ (w : ℕ). ltb w v) t e)
+pub below_of_test : (v : ℕ) (t : List ℕ) → ranks_below v t ≡ true → Below v t
+unfolding ranks_below
+below_of_test v t e = all_imp (λ (w : ℕ). ltb w v ≡ true) (λ (w : ℕ). w < v) (λ w q. ltb-true w v q) t (all_of_pass (λ (w : ℕ). ltb w v) t e)
 
-pub test-of-below : (v : ℕ) (t : List ℕ) → Below v t → ranksBelow v t ≡ true
-unfolding ranksBelow
-test-of-below v t b = pass-of-all (λ (w : ℕ). ltb w v) t (all-imp (λ (w : ℕ). w < v) (λ (w : ℕ). ltb w v ≡ true) (λ w q. lt-ltb w v q) t b)
+pub test_of_below : (v : ℕ) (t : List ℕ) → Below v t → ranks_below v t ≡ true
+unfolding ranks_below
+test_of_below v t b = pass_of_all (λ (w : ℕ). ltb w v) t (all_imp (λ (w : ℕ). w < v) (λ (w : ℕ). ltb w v ≡ true) (λ w q. lt-ltb w v q) t b)
 
 -- a text has at most 16,777,216 words, with ranks below V
-pub text-length : (v : ℕ) (t : List ℕ) → isText v t ≡ true → length t ≤ maxWords
-unfolding isText
-text-length v t e = leb-true (length t) maxWords (and_left (leb (length t) maxWords) (ranksBelow v t) e)
+pub text_length_lem : (v : ℕ) (t : List ℕ) → is_text v t ≡ true → length t ≤ max_words
+unfolding is_text
+text_length_lem v t e = leb-true (length t) max_words (and_left (leb (length t) max_words) (ranks_below v t) e)
 
-pub text-below : (v : ℕ) (t : List ℕ) → isText v t ≡ true → Below v t
-unfolding isText
-text-below v t e = below-of-test v t (and_right (leb (length t) maxWords) (ranksBelow v t) e)
+pub text_below : (v : ℕ) (t : List ℕ) → is_text v t ≡ true → Below v t
+unfolding is_text
+text_below v t e = below_of_test v t (and_right (leb (length t) max_words) (ranks_below v t) e)
 
-pub is-text : (v : ℕ) (t : List ℕ) → length t ≤ maxWords → Below v t → isText v t ≡ true
-unfolding isText
-is-text v t l b = and-true (leb (length t) maxWords) (ranksBelow v t) (le-leb (length t) maxWords l) (test-of-below v t b)
+pub is_text_lem : (v : ℕ) (t : List ℕ) → length t ≤ max_words → Below v t → is_text v t ≡ true
+unfolding is_text
+is_text_lem v t l b = and_true (leb (length t) max_words) (ranks_below v t) (le-leb (length t) max_words l) (test_of_below v t b)
 
 -- the first rank that is not below V stands inside the text exactly if there is one
-not-below : (v w : ℕ) → leb v w ≡ not (ltb w v)
-not-below v w = leb-not w v (ltb w v) refl ∙ flip (ltb w v)
+not_below : (v w : ℕ) → leb v w ≡ not (ltb w v)
+not_below v w = leb_not w v (ltb w v) refl ∙ flip (ltb w v)
   where
     flip : (t : Bool) → cond t false true ≡ not t
     flip true = refl
     flip false = refl
 
-pub rank-outside : (v : ℕ) (t : List ℕ) → firstWhere (λ (w : ℕ). leb v w) t < length t → ranksBelow v t ≡ false
-unfolding ranksBelow
-rank-outside v t h = false_of (ranksBelow v t) (λ e. absurd (omega (arith, first-where-length (λ (w : ℕ). leb v w) (λ (w : ℕ). ltb w v) (not-below v) t e)))
+pub rank_outside : (v : ℕ) (t : List ℕ) → first_where (λ (w : ℕ). leb v w) t < length t → ranks_below v t ≡ false
+unfolding ranks_below
+rank_outside v t h = false_of (ranks_below v t) (λ e. absurd (omega (arith, first_where_length (λ (w : ℕ). leb v w) (λ (w : ℕ). ltb w v) (not_below v) t e)))
 
-pub no-rank-outside : (v : ℕ) (t : List ℕ) → length t ≤ firstWhere (λ (w : ℕ). leb v w) t → ranksBelow v t ≡ true
-unfolding ranksBelow
-no-rank-outside v t h = go (ranksBelow v t) refl
+pub no_rank_outside : (v : ℕ) (t : List ℕ) → length t ≤ first_where (λ (w : ℕ). leb v w) t → ranks_below v t ≡ true
+unfolding ranks_below
+no_rank_outside v t h = go (ranks_below v t) refl
   where
-    go : (r : Bool) → ranksBelow v t ≡ r → ranksBelow v t ≡ true
+    go : (r : Bool) → ranks_below v t ≡ r → ranks_below v t ≡ true
     go true e = e
-    go false e = absurd (omega (arith, first-where-inside (λ (w : ℕ). leb v w) (λ (w : ℕ). ltb w v) (not-below v) t e))
+    go false e = absurd (omega (arith, first_where_inside (λ (w : ℕ). leb v w) (λ (w : ℕ). ltb w v) (not_below v) t e))

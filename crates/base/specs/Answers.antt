@@ -11,12 +11,12 @@ abbrev pub refused : ℕ → Answer
 refused number = record { refusal = number; value = 0 }
 
 -- a call refused with this number, and the place or byte offset that is returned with it
-abbrev pub refusedAt : ℕ → ℕ → Answer
-refusedAt number at = record { refusal = number; value = at }
+abbrev pub refused_at : ℕ → ℕ → Answer
+refused_at number at = record { refusal = number; value = at }
 
 -- whether a call is accepted
-abbrev pub isAccepted : Answer → Bool
-isAccepted a = eqb a.refusal 0
+abbrev pub is_accepted : Answer → Bool
+is_accepted a = eqb a.refusal 0
 
 -- a row of the table of refusals: what is returned if the test holds
 infix 20 ◌⇒◌
@@ -51,11 +51,11 @@ front xs slice = xs ++ drop (length xs) slice
 
 -- what a call with this answer leaves in a slice that it fills with xs: a refused call leaves it as it was
 unfoldable pub filled : Answer → List ℕ → List ℕ → List ℕ
-filled a xs slice = cond (isAccepted a) (front xs slice) slice
+filled a xs slice = cond (is_accepted a) (front xs slice) slice
 
 -- Statement: a refused call leaves each slice untouched; a call that fills a slice leaves its length, what it wrote stands in front,
 -- and the elements past that stay.
 pub record FillsFront : Type 0 where
-  pub untouched : (a : Answer) (xs slice : List ℕ) → isAccepted a ≡ false → filled a xs slice ≡ slice
-  pub filling : (a : Answer) (xs slice : List ℕ) → isAccepted a ≡ true → filled a xs slice ≡ xs ++ drop (length xs) slice
-  pub sameLength : (a : Answer) (xs slice : List ℕ) → length xs ≤ length slice → length (filled a xs slice) ≡ length slice
+  pub untouched : (a : Answer) (xs slice : List ℕ) → is_accepted a ≡ false → filled a xs slice ≡ slice
+  pub filling : (a : Answer) (xs slice : List ℕ) → is_accepted a ≡ true → filled a xs slice ≡ xs ++ drop (length xs) slice
+  pub same_length : (a : Answer) (xs slice : List ℕ) → length xs ≤ length slice → length (filled a xs slice) ≡ length slice

@@ -11,29 +11,29 @@ abbrev pub Below : ℕ → List ℕ → Type 0
 Below bound xs = All (λ (x : ℕ). x < bound) xs
 
 -- whether every element passes the test
-abbrev pub allPass {ℓ} : {A : Type ℓ} → (A → Bool) → List A → Bool
-allPass test [] = true
-allPass test (x ∷ xs) = test x && allPass test xs
+abbrev pub all_pass {ℓ} : {A : Type ℓ} → (A → Bool) → List A → Bool
+all_pass test [] = true
+all_pass test (x ∷ xs) = test x && all_pass test xs
 
 -- the elements that pass the test, in order
-abbrev pub filterBy {ℓ} : {A : Type ℓ} → (A → Bool) → List A → List A
-filterBy test [] = []
-filterBy test (x ∷ xs) = cond (test x) (x ∷ filterBy test xs) (filterBy test xs)
+abbrev pub filter_by {ℓ} : {A : Type ℓ} → (A → Bool) → List A → List A
+filter_by test [] = []
+filter_by test (x ∷ xs) = cond (test x) (x ∷ filter_by test xs) (filter_by test xs)
 
 -- the index of the first element that passes the test; the length where there is none
-abbrev pub firstWhere {ℓ} : {A : Type ℓ} → (A → Bool) → List A → ℕ
-firstWhere test [] = 0
-firstWhere test (x ∷ xs) = cond (test x) 0 (suc (firstWhere test xs))
+abbrev pub first_where {ℓ} : {A : Type ℓ} → (A → Bool) → List A → ℕ
+first_where test [] = 0
+first_where test (x ∷ xs) = cond (test x) 0 (suc (first_where test xs))
 
 -- n numbers from a on: a, a + 1, up to a + n - 1
-abbrev pub rangeFrom : ℕ → ℕ → List ℕ
-rangeFrom a zero = []
-rangeFrom a (suc n) = a ∷ rangeFrom (suc a) n
+abbrev pub range_from : ℕ → ℕ → List ℕ
+range_from a zero = []
+range_from a (suc n) = a ∷ range_from (suc a) n
 
 -- the numbers from n down to 1
-abbrev pub downFrom : ℕ → List ℕ
-downFrom zero = []
-downFrom (suc n) = suc n ∷ downFrom n
+abbrev pub down_from : ℕ → List ℕ
+down_from zero = []
+down_from (suc n) = suc n ∷ down_from n
 
 -- the sum of a list
 abbrev pub total : List ℕ → ℕ
@@ -64,11 +64,11 @@ segments [] xs = []
 segments (n ∷ ns) xs = take n xs ∷ segments ns (drop n xs)
 
 -- a number put in front of the first list; where there is none, it is a list by itself
-abbrev pub consFirst : ℕ → List (List ℕ) → List (List ℕ)
-consFirst x [] = (x ∷ []) ∷ []
-consFirst x (xs ∷ xss) = (x ∷ xs) ∷ xss
+abbrev pub cons_first : ℕ → List (List ℕ) → List (List ℕ)
+cons_first x [] = (x ∷ []) ∷ []
+cons_first x (xs ∷ xss) = (x ∷ xs) ∷ xss
 
 -- a list cut after each element that passes the test; the last piece ends in none where the list goes on past the last of them
-abbrev pub cutAfter : (ℕ → Bool) → List ℕ → List (List ℕ)
-cutAfter test [] = []
-cutAfter test (x ∷ xs) = cond (test x) ((x ∷ []) ∷ cutAfter test xs) (consFirst x (cutAfter test xs))
+abbrev pub cut_after : (ℕ → Bool) → List ℕ → List (List ℕ)
+cut_after test [] = []
+cut_after test (x ∷ xs) = cond (test x) ((x ∷ []) ∷ cut_after test xs) (cons_first x (cut_after test xs))

@@ -2,5 +2,5 @@
 use Rattle.std.specs.Prelude.{ℕ, List, [], ◌∷◌}
 
 -- its text
-abbrev pub sampleText : List ℕ
-sampleText = 0 ∷ 128 ∷ 0 ∷ 129 ∷ 128 ∷ []
+abbrev pub sample_text : List ℕ
+sample_text = 0 ∷ 128 ∷ 0 ∷ 129 ∷ 128 ∷ []

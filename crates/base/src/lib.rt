@@ -3,8 +3,8 @@
 pub mod refusal;
 
 ghost use Rattle.std.specs.Prelude.{◌≡◌, min, leb};
-ghost use Rattle.base.specs.Lists.{firstWhere};
-ghost use Rattle.base.specs.Answers.{accepted, refused, refusedAt};
+ghost use Rattle.base.specs.Lists.{first_where};
+ghost use Rattle.base.specs.Answers.{accepted, refused, refused_at};
 
 // The most words of a vocabulary with 128 closing values.
 pub const MAX_VOCABULARY: usize = 2113664;
@@ -46,7 +46,7 @@ impl Answer {
 
     // The answer of a refused call, with which a place or a byte offset is returned.
     pub fn refused_at(number: u32, at: usize) -> Answer
-        ensures { result ≡ refusedAt number at }
+        ensures { result ≡ refused_at number at }
     {
         Answer {
             refusal: number,
@@ -65,7 +65,7 @@ pub fn least(a: usize, b: usize) -> usize
 // The first place of a text whose rank is not below the size of the vocabulary; the text's length
 // where there is none.
 pub fn first_outside(text: &[u32], vocabulary: usize) -> usize
-    ensures { result ≡ firstWhere (λ w. leb vocabulary w) text.now }
+    ensures { result ≡ first_where (λ w. leb vocabulary w) text.now }
 {
     let mut place = 0;
     while place < text.len() {

@@ -10,68 +10,68 @@ use lib.ListN.{length, take, drop, get_or, length-take}
 use lib.Seq.{take_all}
 use Rattle.base.specs.Lists.{count_of, nth}
 use Rattle.base.proofs.Tests.{below_or_not}
-use Rattle.base.proofs.Counts.{Found, count-hit, count-part, count_most, count-take-rises, count-take-less, nth-found, nth_here, nth-none}
+use Rattle.base.proofs.Counts.{Found, count_hit, count_part, count_most, count_take_rises, count_take_less, nth_found, nth_here, nth_none}
 use Rattle.block_scan.specs.declared.Where.TheVariants.{At, Nowhere}
 use Rattle.block_scan.specs.declared.Scanned.{Scanned}
-use Rattle.block_scan.specs.BlockScans.{scanOf, position_of}
+use Rattle.block_scan.specs.BlockScans.{scan_of, position_of}
 
 -- the scan of a block by whether it has more than j
 cases : ℕ → ℕ → List ℕ → Bool → Scanned
 cases x j block t = cond t (record { stands = At (nth x j block); read = suc (nth x j block) }) (record { stands = Nowhere; read = length block })
 
 -- where the block has more than j
-pub scan-found : (x j : ℕ) (block : List ℕ) → j < count_of x block → scanOf x j block ≡ record { stands = At (nth x j block); read = suc (nth x j block) }
-unfolding scanOf cases
-scan-found x j block h = ap (cases x j block) (lt-ltb j _ (omega (arith, h)))
+pub scan_found : (x j : ℕ) (block : List ℕ) → j < count_of x block → scan_of x j block ≡ record { stands = At (nth x j block); read = suc (nth x j block) }
+unfolding scan_of cases
+scan_found x j block h = ap (cases x j block) (lt-ltb j _ (omega (arith, h)))
 
 -- and where it has at most j
-pub scan-none : (x j : ℕ) (block : List ℕ) → count_of x block ≤ j → scanOf x j block ≡ record { stands = Nowhere; read = length block }
-unfolding scanOf cases
-scan-none x j block h = ap (cases x j block) (le-ltb j _ (omega (arith, h)))
+pub scan_none : (x j : ℕ) (block : List ℕ) → count_of x block ≤ j → scan_of x j block ≡ record { stands = Nowhere; read = length block }
+unfolding scan_of cases
+scan_none x j block h = ap (cases x j block) (le-ltb j _ (omega (arith, h)))
 
 -- the position that the scan gives is that of the occurrence, and the length where there is none
-pub scan-position : (x j : ℕ) (block : List ℕ) → position_of (scanOf x j block).stands (length block) ≡ nth x j block
-scan-position x j block = go (below_or_not j (count_of x block))
+pub scan_position : (x j : ℕ) (block : List ℕ) → position_of (scan_of x j block).stands (length block) ≡ nth x j block
+scan_position x j block = go (below_or_not j (count_of x block))
   where
-    go : (j < count_of x block) ⊎ (count_of x block ≤ j) → position_of (scanOf x j block).stands (length block) ≡ nth x j block
-    go (inl h) = ap (λ (r : Scanned). position_of r.stands (length block)) (scan-found x j block h)
-    go (inr h) = ap (λ (r : Scanned). position_of r.stands (length block)) (scan-none x j block h) ∙ sym (nth-none x j block h)
+    go : (j < count_of x block) ⊎ (count_of x block ≤ j) → position_of (scan_of x j block).stands (length block) ≡ nth x j block
+    go (inl h) = ap (λ (r : Scanned). position_of r.stands (length block)) (scan_found x j block h)
+    go (inr h) = ap (λ (r : Scanned). position_of r.stands (length block)) (scan_none x j block h) ∙ sym (nth_none x j block h)
 
 -- n more bytes have at most n more of x
-pub piece-most : (x i n : ℕ) (block : List ℕ) → count_of x (take (i + n) block) ≤ count_of x (take i block) + n
-piece-most x i n block = omega (arith, count-part x i n block, count_most x (take n (drop i block)), length-take n (drop i block))
+pub piece_most : (x i n : ℕ) (block : List ℕ) → count_of x (take (i + n) block) ≤ count_of x (take i block) + n
+piece_most x i n block = omega (arith, count_part x i n block, count_most x (take n (drop i block)), length-take n (drop i block))
 
 -- a position is not past the occurrence where at most j of x stand before it
-pub not-past : (x j i : ℕ) (block : List ℕ) → i ≤ length block → count_of x (take i block) ≤ j → i ≤ nth x j block
-not-past x j i block here most = go (below_or_not j (count_of x block))
+pub not_past : (x j i : ℕ) (block : List ℕ) → i ≤ length block → count_of x (take i block) ≤ j → i ≤ nth x j block
+not_past x j i block here most = go (below_or_not j (count_of x block))
   where
     go : (j < count_of x block) ⊎ (count_of x block ≤ j) → i ≤ nth x j block
-    go (inl h) = by (nth-found x j block h) (below_or_not (nth x j block) i)
+    go (inl h) = by (nth_found x j block h) (below_or_not (nth x j block) i)
       where
         by : Found x j block → (nth x j block < i) ⊎ (i ≤ nth x j block) → i ≤ nth x j block
         by f (inl less) =
-            absurd (omega (arith, most, f.before, count-hit x block (nth x j block) f.inside f.stands, count-take-rises x (suc (nth x j block)) i block (omega arith)))
+            absurd (omega (arith, most, f.before, count_hit x block (nth x j block) f.inside f.stands, count_take_rises x (suc (nth x j block)) i block (omega arith)))
         by f (inr past) = past
-    go (inr h) = omega (arith, nth-none x j block h)
+    go (inr h) = omega (arith, nth_none x j block h)
 
 -- the first i bytes and n more, at most 64, are before the occurrence, where as many as n others are left to pass after the first i: a
 -- piece that may be lent with the bytes before it
-pub piece-not-past : (x j i n : ℕ) (block : List ℕ) → n ≤ 64 → i + n ≤ length block → count_of x (take i block) + n ≤ j
+pub piece_not_past : (x j i n : ℕ) (block : List ℕ) → n ≤ 64 → i + n ≤ length block → count_of x (take i block) + n ≤ j
     → (i ≤ length (take (i + n) block)) × (length (take (i + n) block) ≤ i + 64) × (length (take (i + n) block) ≤ nth x j (take (i + n) block))
-piece-not-past x j i n block short here left =
+piece_not_past x j i n block short here left =
     let size : length (take (i + n) block) ≡ i + n = length-take (i + n) block ∙ omega arith in
-    (omega arith, omega arith, omega (arith, nth-none x j (take (i + n) block) (omega (arith, piece-most x i n block))))
+    (omega arith, omega arith, omega (arith, nth_none x j (take (i + n) block) (omega (arith, piece_most x i n block))))
 
 -- a scan that has read i bytes with j of x, and then x, ends there
-pub scan-hit : (x j i : ℕ) (block : List ℕ) → i < length block → get_or block i 0 ≡ x → count_of x (take i block) ≡ j
-    → record { stands = At i; read = suc i } ≡ scanOf x j block
-scan-hit x j i block here q c =
+pub scan_hit : (x j i : ℕ) (block : List ℕ) → i < length block → get_or block i 0 ≡ x → count_of x (take i block) ≡ j
+    → record { stands = At i; read = suc i } ≡ scan_of x j block
+scan_hit x j i block here q c =
     let p : nth x j block ≡ i = nth_here x j i block here q c in
-    let h : j < count_of x block = omega (arith, count-take-less x block i here q) in
-    sym (scan-found x j block h ∙ ap (λ (n : ℕ). record { stands = At n; read = suc n }) p)
+    let h : j < count_of x block = omega (arith, count_take_less x block i here q) in
+    sym (scan_found x j block h ∙ ap (λ (n : ℕ). record { stands = At n; read = suc n }) p)
 
 -- a scan that has read all bytes with at most j of x ends with none
-pub scan-whole : (x j i : ℕ) (block : List ℕ) → i ≡ length block → count_of x (take i block) ≤ j → record { stands = Nowhere; read = i } ≡ scanOf x j block
-scan-whole x j i block e most =
+pub scan_whole : (x j i : ℕ) (block : List ℕ) → i ≡ length block → count_of x (take i block) ≤ j → record { stands = Nowhere; read = i } ≡ scan_of x j block
+scan_whole x j i block e most =
     let all : take i block ≡ block = take_all i block (omega arith) in
-    ap (λ (n : ℕ). record { stands = Nowhere; read = n }) e ∙ sym (scan-none x j block (rw all at most))
+    ap (λ (n : ℕ). record { stands = Nowhere; read = n }) e ∙ sym (scan_none x j block (rw all at most))

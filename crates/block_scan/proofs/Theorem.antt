@@ -6,39 +6,39 @@ use native.Mathlib.Omega.{arith}
 use lib.ListN.{length, take}
 use lib.Seq.{take-append_seam}
 use Rattle.base.specs.Lists.{count_of, nth}
-use Rattle.base.proofs.Counts.{Found, count-append, count-hit, nth-found, nth-front}
+use Rattle.base.proofs.Counts.{Found, count_append, count_hit, nth_found, nth_front}
 use Rattle.block_scan.specs.declared.Where.TheVariants.{At, Nowhere}
 use Rattle.block_scan.specs.declared.Scanned.{Scanned}
-use Rattle.block_scan.specs.BlockScans.{scanOf}
+use Rattle.block_scan.specs.BlockScans.{scan_of}
 use Rattle.block_scan.specs.Laws.{ScansExact}
-use Rattle.block_scan.proofs.BlockScans.{scan-found, scan-none}
+use Rattle.block_scan.proofs.BlockScans.{scan_found, scan_none}
 
 -- what is read of a block with more than j has the occurrence at its end, whatever follows it
-scan-enough : (x j : ℕ) (block rest : List ℕ) → j < count_of x block → scanOf x j (take (suc (nth x j block)) block ++ rest) ≡ scanOf x j block
-scan-enough x j block rest h = same (take (suc (nth x j block)) block) b (nth-front x j (suc (nth x j block)) block (omega (arith, b)))
+scan_enough : (x j : ℕ) (block rest : List ℕ) → j < count_of x block → scan_of x j (take (suc (nth x j block)) block ++ rest) ≡ scan_of x j block
+scan_enough x j block rest h = same (take (suc (nth x j block)) block) b (nth_front x j (suc (nth x j block)) block (omega (arith, b)))
   where
     b : count_of x (take (suc (nth x j block)) block) ≡ suc j
-    b = let f : Found x j block = nth-found x j block h in omega (arith, count-hit x block (nth x j block) f.inside f.stands, f.before)
+    b = let f : Found x j block = nth_found x j block h in omega (arith, count_hit x block (nth x j block) f.inside f.stands, f.before)
 
-    same : (front : List ℕ) → count_of x front ≡ suc j → nth x j front ≡ nth x j block → scanOf x j (front ++ rest) ≡ scanOf x j block
+    same : (front : List ℕ) → count_of x front ≡ suc j → nth x j front ≡ nth x j block → scan_of x j (front ++ rest) ≡ scan_of x j block
     same front c p =
         let t : count_of x (take (length front) (front ++ rest)) ≡ count_of x front = ap (count_of x) (take-append_seam front rest) in
-        let r : nth x j front ≡ nth x j (front ++ rest) = sym (ap (nth x j) (take-append_seam front rest)) ∙ nth-front x j (length front) (front ++ rest) (omega arith) in
+        let r : nth x j front ≡ nth x j (front ++ rest) = sym (ap (nth x j) (take-append_seam front rest)) ∙ nth_front x j (length front) (front ++ rest) (omega arith) in
         let q : nth x j (front ++ rest) ≡ nth x j block = sym r ∙ p in
-        scan-found x j (front ++ rest) (omega (arith, count-append x front rest)) ∙ ap (λ (n : ℕ). record { stands = At n; read = suc n }) q ∙ sym (scan-found x j block h)
+        scan_found x j (front ++ rest) (omega (arith, count_append x front rest)) ∙ ap (λ (n : ℕ). record { stands = At n; read = suc n }) q ∙ sym (scan_found x j block h)
 
-pub scans-exact : ScansExact
-scans-exact x j block = record {
-  found = λ h. let f : Found x j block = nth-found x j block h in (nth x j block, f.inside, f.stands, f.before, scan-found x j block h);
-  none = scan-none x j block;
-  enough = λ rest h. ap (λ (r : Scanned). scanOf x j (take r.read block ++ rest)) (scan-found x j block h) ∙ scan-enough x j block rest h;
+pub scans_exact : ScansExact
+scans_exact x j block = record {
+  found = λ h. let f : Found x j block = nth_found x j block h in (nth x j block, f.inside, f.stands, f.before, scan_found x j block h);
+  none = scan_none x j block;
+  enough = λ rest h. ap (λ (r : Scanned). scan_of x j (take r.read block ++ rest)) (scan_found x j block h) ∙ scan_enough x j block rest h;
 }
 
 -- samples: the third, the second, one at the last byte, one too many, an empty block
-samples : (scanOf 7 2 (7 ∷ 1 ∷ 7 ∷ 7 ∷ 7 ∷ []) ≡ record { stands = At 3; read = 4 })
-    × (scanOf 7 1 (7 ∷ 1 ∷ 7 ∷ 7 ∷ 7 ∷ []) ≡ record { stands = At 2; read = 3 })
-    × (scanOf 7 3 (7 ∷ 1 ∷ 7 ∷ 7 ∷ 7 ∷ []) ≡ record { stands = At 4; read = 5 })
-    × (scanOf 7 4 (7 ∷ 1 ∷ 7 ∷ 7 ∷ 7 ∷ []) ≡ record { stands = Nowhere; read = 5 })
-    × (scanOf 7 0 [] ≡ record { stands = Nowhere; read = 0 })
-unfolding scanOf
+samples : (scan_of 7 2 (7 ∷ 1 ∷ 7 ∷ 7 ∷ 7 ∷ []) ≡ record { stands = At 3; read = 4 })
+    × (scan_of 7 1 (7 ∷ 1 ∷ 7 ∷ 7 ∷ 7 ∷ []) ≡ record { stands = At 2; read = 3 })
+    × (scan_of 7 3 (7 ∷ 1 ∷ 7 ∷ 7 ∷ 7 ∷ []) ≡ record { stands = At 4; read = 5 })
+    × (scan_of 7 4 (7 ∷ 1 ∷ 7 ∷ 7 ∷ 7 ∷ []) ≡ record { stands = Nowhere; read = 5 })
+    × (scan_of 7 0 [] ≡ record { stands = Nowhere; read = 0 })
+unfolding scan_of
 samples = (refl, refl, refl, refl, refl)

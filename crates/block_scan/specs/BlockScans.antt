@@ -9,8 +9,8 @@ use Rattle.block_scan.specs.declared.Look.{Look}
 
 -- what the scan of a block for the x with j others before it gives: its position, and the number of bytes from the block's start through
 -- it, which are read; where the block has at most j of x, none, and the whole block is read
-unfoldable pub scanOf : ℕ → ℕ → List ℕ → Scanned
-scanOf x j block =
+unfoldable pub scan_of : ℕ → ℕ → List ℕ → Scanned
+scan_of x j block =
     cond (ltb j (count_of x block))
     (record { stands = At (nth x j block); read = suc (nth x j block) })
     (record { stands = Nowhere; read = length block })

@@ -5,7 +5,7 @@
 // above them lend parts of the block and read none of it.
 ghost use Rattle.std.specs.Prelude.{◌≡◌, false, suc, ◌+◌, ◌≤◌, length, take};
 ghost use Rattle.base.specs.Lists.{count_of, nth as nth_of};
-ghost use Rattle.block_scan.specs.BlockScans.{scanOf, position_of, ReadSoFar, last_of, Looked};
+ghost use Rattle.block_scan.specs.BlockScans.{scan_of, position_of, ReadSoFar, last_of, Looked};
 
 // Where an occurrence stands in a block.
 #[derive(Drop)]
@@ -170,7 +170,7 @@ pub fn next_of(part: &[u8], byte: u8) -> usize
 // Scans a block for the occurrence of a byte that has j others before it: by pieces while many others
 // are left to pass, and then from one occurrence to the next.
 pub fn scan(block: &[u8], byte: u8, j: usize) -> Scanned
-    ensures { result ≡ scanOf byte j block.now }
+    ensures { result ≡ scan_of byte j block.now }
 {
     let none = Progress { read: 0, left: j };
     let long = read_pieces(block, 64, byte, j, none);

@@ -4,8 +4,8 @@
 ghost use Rattle.std.specs.Prelude.{◌≡◌};
 ghost use Rattle.dense.specs.Code.{Closing};
 ghost use Rattle.index.specs.Arrays.{arrays};
-ghost use Rattle.index.specs.Entries.{buildAnswer, buildExit};
-ghost use Rattle.measuring.specs.Sizes.{buildSizedAnswer, buildSizedExit};
+ghost use Rattle.index.specs.Entries.{build_answer, build_exit};
+ghost use Rattle.measuring.specs.Sizes.{build_sized_answer, build_sized_exit};
 
 use base::{Answer, refusal};
 use index::Shape;
@@ -23,9 +23,9 @@ pub fn build_of(
     blocks: &mut [u16],
 ) -> Answer
     requires { Closing s }
-    ensures answered { result ≡ buildAnswer s shape text.now (arrays lengths.old bytes.old superblocks.old blocks.old) }
+    ensures answered { result ≡ build_answer s shape text.now (arrays lengths.old bytes.old superblocks.old blocks.old) }
     ensures filled { arrays lengths.new bytes.new superblocks.new blocks.new
-        ≡ buildExit s shape text.now (arrays lengths.old bytes.old superblocks.old blocks.old) }
+        ≡ build_exit s shape text.now (arrays lengths.old bytes.old superblocks.old blocks.old) }
 {
     let measured = measuring::measure_of(s, shape, text);
     if measured.answer.refusal != 0 {
@@ -53,9 +53,9 @@ pub fn build_sized_of(
     blocks: &mut [u16],
 ) -> Answer
     requires { Closing s }
-    ensures answered { result ≡ buildSizedAnswer s shape sizes text.now (arrays lengths.old bytes.old superblocks.old blocks.old) }
+    ensures answered { result ≡ build_sized_answer s shape sizes text.now (arrays lengths.old bytes.old superblocks.old blocks.old) }
     ensures filled { arrays lengths.new bytes.new superblocks.new blocks.new
-        ≡ buildSizedExit s shape sizes text.now (arrays lengths.old bytes.old superblocks.old blocks.old) }
+        ≡ build_sized_exit s shape sizes text.now (arrays lengths.old bytes.old superblocks.old blocks.old) }
 {
     let measured = measuring::measure_of(s, shape, text);
     if measured.answer.refusal != 0 {
@@ -83,9 +83,9 @@ pub fn build(
     superblocks: &mut [u32],
     blocks: &mut [u16],
 ) -> Answer
-    ensures answered { result ≡ buildAnswer 128 shape text.now (arrays lengths.old bytes.old superblocks.old blocks.old) }
+    ensures answered { result ≡ build_answer 128 shape text.now (arrays lengths.old bytes.old superblocks.old blocks.old) }
     ensures filled { arrays lengths.new bytes.new superblocks.new blocks.new
-        ≡ buildExit 128 shape text.now (arrays lengths.old bytes.old superblocks.old blocks.old) }
+        ≡ build_exit 128 shape text.now (arrays lengths.old bytes.old superblocks.old blocks.old) }
 {
     build_of(
         dense::CLOSING,
@@ -111,9 +111,9 @@ pub fn build_sized(
     superblocks: &mut [u32],
     blocks: &mut [u16],
 ) -> Answer
-    ensures answered { result ≡ buildSizedAnswer 128 shape sizes text.now (arrays lengths.old bytes.old superblocks.old blocks.old) }
+    ensures answered { result ≡ build_sized_answer 128 shape sizes text.now (arrays lengths.old bytes.old superblocks.old blocks.old) }
     ensures filled { arrays lengths.new bytes.new superblocks.new blocks.new
-        ≡ buildSizedExit 128 shape sizes text.now (arrays lengths.old bytes.old superblocks.old blocks.old) }
+        ≡ build_sized_exit 128 shape sizes text.now (arrays lengths.old bytes.old superblocks.old blocks.old) }
 {
     build_sized_of(
         dense::CLOSING,

@@ -5,9 +5,9 @@
 ghost use Rattle.std.specs.Prelude.{◌≡◌, ◌<◌, length};
 ghost use Rattle.base.specs.Lists.{total};
 ghost use Rattle.dense.specs.Code.{Closing};
-ghost use Rattle.starts.specs.Starts.{maxStarts};
+ghost use Rattle.starts.specs.Starts.{max_starts};
 ghost use Rattle.index.specs.Arrays.{arrays, passes as arraysPass};
-ghost use Rattle.index.specs.Entries.{checkAnswer};
+ghost use Rattle.index.specs.Entries.{check_answer};
 ghost use Rattle.index.specs.Exact.{WithinLimits};
 
 use base::{Answer, refusal};
@@ -15,7 +15,7 @@ use index::Shape;
 
 // The sum of the node lengths.
 pub fn total_length(lengths: &[u32]) -> usize
-    requires { length lengths.now < maxStarts }
+    requires { length lengths.now < max_starts }
     ensures { result ≡ total lengths.now }
 {
     let mut sum: usize = 0;
@@ -70,7 +70,7 @@ pub fn check_of(
     blocks: &[u16],
 ) -> Answer
     requires { Closing s }
-    ensures { result ≡ checkAnswer s shape (arrays lengths.now bytes.now superblocks.now blocks.now) }
+    ensures { result ≡ check_answer s shape (arrays lengths.now bytes.now superblocks.now blocks.now) }
 {
     let refused = index::limits_refusal(s, shape);
     if refused != 0 {
@@ -91,7 +91,7 @@ pub fn check(
     superblocks: &[u32],
     blocks: &[u16],
 ) -> Answer
-    ensures { result ≡ checkAnswer 128 shape (arrays lengths.now bytes.now superblocks.now blocks.now) }
+    ensures { result ≡ check_answer 128 shape (arrays lengths.now bytes.now superblocks.now blocks.now) }
 {
     check_of(dense::CLOSING, shape, lengths, bytes, superblocks, blocks)
 }

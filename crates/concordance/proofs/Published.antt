@@ -3,5 +3,5 @@ use lib.Dec.{lit≤}
 use Rattle.dense.specs.Code.{Closing}
 
 -- 128 is such a number
-pub closing-128 : Closing 128
-closing-128 = record { least = lit≤ tt; most = lit≤ tt }
+pub closing_128 : Closing 128
+closing_128 = record { least = lit≤ tt; most = lit≤ tt }

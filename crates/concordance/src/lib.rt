@@ -4,22 +4,22 @@
 // `include/concordance.h` declares them. A slice passes as a pointer and a length, and the structs
 // pass by value as C has them.
 ghost use Rattle.std.specs.Prelude.{◌≡◌, length};
-ghost use Rattle.dense.specs.Streams.{writeStreamAnswer, writeStreamExit, readStreamAnswer, readStreamExit};
-ghost use Rattle.index.specs.Arrays.{arrays, textIn};
-ghost use Rattle.index.specs.Entries.{buildAnswer, buildExit, checkAnswer};
-ghost use Rattle.measuring.specs.Sizes.{measuredOf, buildSizedAnswer, buildSizedExit};
-ghost use Rattle.documents.specs.Documents.{oneStart};
-ghost use Rattle.questions.specs.Answering.{askAnswerIn, askAnswer};
-ghost use Rattle.questions.specs.Passages.{passageAnswer, passageExit};
+ghost use Rattle.dense.specs.Streams.{write_stream_answer, write_stream_exit, read_stream_answer, read_stream_exit};
+ghost use Rattle.index.specs.Arrays.{arrays, text_in};
+ghost use Rattle.index.specs.Entries.{build_answer, build_exit, check_answer};
+ghost use Rattle.measuring.specs.Sizes.{measured_of, build_sized_answer, build_sized_exit};
+ghost use Rattle.documents.specs.Documents.{one_start};
+ghost use Rattle.questions.specs.Answering.{ask_answer_in, ask_answer};
+ghost use Rattle.questions.specs.Passages.{passage_answer, passage_exit};
 ghost use Rattle.listing.specs.Paging.{opened, call_of, page_of};
-ghost use Rattle.summaries.specs.Summaries.{summaryAnswer, summaryExit};
+ghost use Rattle.summaries.specs.Summaries.{summary_answer, summary_exit};
 ghost use Rattle.lexicon.specs.Letters.{letters};
-ghost use Rattle.lexicon.specs.Reading.{readTextAnswer, readTextExit};
-ghost use Rattle.finding.specs.Finding.{findWordAnswer};
-ghost use Rattle.list_calls.specs.Making.{listMade, makeListExit, makeRanksExit};
-ghost use Rattle.lexicon.specs.Tables.{tableAnswer};
-ghost use Rattle.lent_tables.specs.Calls.{readTextWithAnswer, readTextWithExit, findWordWithAnswer, listMadeWith, makeListWithExit, makeRanksWithExit};
-ghost use Rattle.sheet_calls.specs.Sheets.{sheetAnswer, sheetExit};
+ghost use Rattle.lexicon.specs.Reading.{read_text_answer, read_text_exit};
+ghost use Rattle.finding.specs.Finding.{find_word_answer};
+ghost use Rattle.list_calls.specs.Making.{list_made, make_list_exit, make_ranks_exit};
+ghost use Rattle.lexicon.specs.Tables.{table_answer};
+ghost use Rattle.lent_tables.specs.Calls.{read_text_with_answer, read_text_with_exit, find_word_with_answer, list_made_with, make_list_with_exit, make_ranks_with_exit};
+ghost use Rattle.sheet_calls.specs.Sheets.{sheet_answer, sheet_exit};
 
 use base::Answer;
 use index::Shape;
@@ -37,7 +37,7 @@ pub extern "C" fn concordance_write_stream(
     text: &[u32],
     stream: &mut [u8],
 ) -> Answer
-    ensures { (result ≡ writeStreamAnswer 128 vocabulary text.now stream.old) × (stream.new ≡ writeStreamExit 128 vocabulary text.now stream.old) }
+    ensures { (result ≡ write_stream_answer 128 vocabulary text.now stream.old) × (stream.new ≡ write_stream_exit 128 vocabulary text.now stream.old) }
 {
     dense::write_stream(vocabulary, text, stream)
 }
@@ -46,7 +46,7 @@ pub extern "C" fn concordance_write_stream(
 // and 15 leave the slice as it was.
 #[unsafe(no_mangle)]
 pub extern "C" fn concordance_read_stream(stream: &[u8], text: &mut [u32]) -> Answer
-    ensures { (result ≡ readStreamAnswer 128 stream.now text.old) × (text.new ≡ readStreamExit 128 stream.now text.old) }
+    ensures { (result ≡ read_stream_answer 128 stream.now text.old) × (text.new ≡ read_stream_exit 128 stream.now text.old) }
 {
     dense::read_stream(stream, text)
 }
@@ -63,9 +63,9 @@ pub extern "C" fn concordance_build(
     superblocks: &mut [u32],
     blocks: &mut [u16],
 ) -> Answer
-    ensures answered { result ≡ buildAnswer 128 shape text.now (arrays lengths.old bytes.old superblocks.old blocks.old) }
+    ensures answered { result ≡ build_answer 128 shape text.now (arrays lengths.old bytes.old superblocks.old blocks.old) }
     ensures filled { arrays lengths.new bytes.new superblocks.new blocks.new
-        ≡ buildExit 128 shape text.now (arrays lengths.old bytes.old superblocks.old blocks.old) }
+        ≡ build_exit 128 shape text.now (arrays lengths.old bytes.old superblocks.old blocks.old) }
 {
     building::build(shape, text, lengths, bytes, superblocks, blocks)
 }
@@ -74,7 +74,7 @@ pub extern "C" fn concordance_build(
 // place whose rank is not below the vocabulary's size, have four zeros beside them.
 #[unsafe(no_mangle)]
 pub extern "C" fn concordance_measure(shape: Shape, text: &[u32]) -> Measured
-    ensures { result ≡ measuredOf 128 shape text.now }
+    ensures { result ≡ measured_of 128 shape text.now }
 {
     measuring::measure(shape, text)
 }
@@ -93,9 +93,9 @@ pub extern "C" fn concordance_build_sized(
     superblocks: &mut [u32],
     blocks: &mut [u16],
 ) -> Answer
-    ensures answered { result ≡ buildSizedAnswer 128 shape sizes text.now (arrays lengths.old bytes.old superblocks.old blocks.old) }
+    ensures answered { result ≡ build_sized_answer 128 shape sizes text.now (arrays lengths.old bytes.old superblocks.old blocks.old) }
     ensures filled { arrays lengths.new bytes.new superblocks.new blocks.new
-        ≡ buildSizedExit 128 shape sizes text.now (arrays lengths.old bytes.old superblocks.old blocks.old) }
+        ≡ build_sized_exit 128 shape sizes text.now (arrays lengths.old bytes.old superblocks.old blocks.old) }
 {
     building::build_sized(shape, sizes, text, lengths, bytes, superblocks, blocks)
 }
@@ -110,7 +110,7 @@ pub extern "C" fn concordance_check(
     superblocks: &[u32],
     blocks: &[u16],
 ) -> Answer
-    ensures { result ≡ checkAnswer 128 shape (arrays lengths.now bytes.now superblocks.now blocks.now) }
+    ensures { result ≡ check_answer 128 shape (arrays lengths.now bytes.now superblocks.now blocks.now) }
 {
     checking::check(shape, lengths, bytes, superblocks, blocks)
 }
@@ -127,7 +127,7 @@ pub extern "C" fn concordance_ask(
     words: &[u32],
     question: Question,
 ) -> Answer
-    ensures { result ≡ askAnswer 128 shape (arrays lengths.now bytes.now superblocks.now blocks.now) words.now question }
+    ensures { result ≡ ask_answer 128 shape (arrays lengths.now bytes.now superblocks.now blocks.now) words.now question }
 {
     asking::ask(shape, lengths, bytes, superblocks, blocks, words, question)
 }
@@ -146,7 +146,7 @@ pub extern "C" fn concordance_ask_in_documents(
     words: &[u32],
     question: Question,
 ) -> Answer
-    ensures { result ≡ askAnswerIn 128 shape (arrays lengths.now bytes.now superblocks.now blocks.now) documents.now words.now question }
+    ensures { result ≡ ask_answer_in 128 shape (arrays lengths.now bytes.now superblocks.now blocks.now) documents.now words.now question }
 {
     asking::ask_in_documents(
         shape,
@@ -176,7 +176,7 @@ pub extern "C" fn concordance_answer_sheet(
     questions: &[Question],
     answers: &mut [u32],
 ) -> Answer
-    ensures { (result ≡ sheetAnswer 128 shape (arrays lengths.now bytes.now superblocks.now blocks.now) (oneStart (length (textIn 128 (arrays lengths.now bytes.now superblocks.now blocks.now)))) (length questions.now) (length answers.old)) × (answers.new ≡ sheetExit 128 shape (arrays lengths.now bytes.now superblocks.now blocks.now) (oneStart (length (textIn 128 (arrays lengths.now bytes.now superblocks.now blocks.now)))) words.now questions.now answers.old) }
+    ensures { (result ≡ sheet_answer 128 shape (arrays lengths.now bytes.now superblocks.now blocks.now) (one_start (length (text_in 128 (arrays lengths.now bytes.now superblocks.now blocks.now)))) (length questions.now) (length answers.old)) × (answers.new ≡ sheet_exit 128 shape (arrays lengths.now bytes.now superblocks.now blocks.now) (one_start (length (text_in 128 (arrays lengths.now bytes.now superblocks.now blocks.now)))) words.now questions.now answers.old) }
 {
     let zero = [0u32; 1];
     let documents = documents::one_start(&zero, lengths);
@@ -209,7 +209,7 @@ pub extern "C" fn concordance_answer_sheet_in_documents(
     questions: &[Question],
     answers: &mut [u32],
 ) -> Answer
-    ensures { (result ≡ sheetAnswer 128 shape (arrays lengths.now bytes.now superblocks.now blocks.now) documents.now (length questions.now) (length answers.old)) × (answers.new ≡ sheetExit 128 shape (arrays lengths.now bytes.now superblocks.now blocks.now) documents.now words.now questions.now answers.old) }
+    ensures { (result ≡ sheet_answer 128 shape (arrays lengths.now bytes.now superblocks.now blocks.now) documents.now (length questions.now) (length answers.old)) × (answers.new ≡ sheet_exit 128 shape (arrays lengths.now bytes.now superblocks.now blocks.now) documents.now words.now questions.now answers.old) }
 {
     let mut starts = [0u32; starts::MAX_STARTS];
     let answer = sheets::prepare(
@@ -259,7 +259,7 @@ pub extern "C" fn concordance_passage(
     place: usize,
     passage: &mut [u32],
 ) -> Answer
-    ensures { (result ≡ passageAnswer 128 shape (arrays lengths.now bytes.now superblocks.now blocks.now) place passage.old) × (passage.new ≡ passageExit 128 shape (arrays lengths.now bytes.now superblocks.now blocks.now) place passage.old) }
+    ensures { (result ≡ passage_answer 128 shape (arrays lengths.now bytes.now superblocks.now blocks.now) place passage.old) × (passage.new ≡ passage_exit 128 shape (arrays lengths.now bytes.now superblocks.now blocks.now) place passage.old) }
 {
     asking::passage(shape, lengths, bytes, superblocks, blocks, place, passage)
 }
@@ -287,7 +287,7 @@ pub extern "C" fn concordance_list(
     count: usize,
     lines: &mut [u32],
 ) -> Page
-    ensures { (result ≡ (page_of (call_of 128 shape (arrays lengths.now bytes.now superblocks.now blocks.now) (oneStart (length (textIn 128 (arrays lengths.now bytes.now superblocks.now blocks.now)))) words.now start count lines.old) state).page) × (lines.new ≡ (page_of (call_of 128 shape (arrays lengths.now bytes.now superblocks.now blocks.now) (oneStart (length (textIn 128 (arrays lengths.now bytes.now superblocks.now blocks.now)))) words.now start count lines.old) state).lines) }
+    ensures { (result ≡ (page_of (call_of 128 shape (arrays lengths.now bytes.now superblocks.now blocks.now) (one_start (length (text_in 128 (arrays lengths.now bytes.now superblocks.now blocks.now)))) words.now start count lines.old) state).page) × (lines.new ≡ (page_of (call_of 128 shape (arrays lengths.now bytes.now superblocks.now blocks.now) (one_start (length (text_in 128 (arrays lengths.now bytes.now superblocks.now blocks.now)))) words.now start count lines.old) state).lines) }
 {
     state.page(
         shape,
@@ -352,7 +352,7 @@ pub extern "C" fn concordance_summary(
     count: usize,
     counts: &mut [u32],
 ) -> Answer
-    ensures { (result ≡ summaryAnswer 128 shape (arrays lengths.now bytes.now superblocks.now blocks.now) documents.now words.now start count (length counts.old)) × (counts.new ≡ summaryExit 128 shape (arrays lengths.now bytes.now superblocks.now blocks.now) documents.now words.now start count counts.old) }
+    ensures { (result ≡ summary_answer 128 shape (arrays lengths.now bytes.now superblocks.now blocks.now) documents.now words.now start count (length counts.old)) × (counts.new ≡ summary_exit 128 shape (arrays lengths.now bytes.now superblocks.now blocks.now) documents.now words.now start count counts.old) }
 {
     summaries::summary(
         shape,
@@ -373,7 +373,7 @@ pub extern "C" fn concordance_summary(
 // offset of the first word that is not in the list, leave the slice as it was.
 #[unsafe(no_mangle)]
 pub extern "C" fn concordance_read_text(list: &[u8], text: &[u8], ranks: &mut [u32]) -> Answer
-    ensures { (result ≡ readTextAnswer letters list.now text.now ranks.old) × (ranks.new ≡ readTextExit letters list.now text.now ranks.old) }
+    ensures { (result ≡ read_text_answer letters list.now text.now ranks.old) × (ranks.new ≡ read_text_exit letters list.now text.now ranks.old) }
 {
     plain_text::read_text(list, text, ranks)
 }
@@ -383,7 +383,7 @@ pub extern "C" fn concordance_read_text(list: &[u8], text: &[u8], ranks: &mut [u
 // separator. Refusals 1 and 13.
 #[unsafe(no_mangle)]
 pub extern "C" fn concordance_find_word(list: &[u8], spelling: &[u8]) -> Answer
-    ensures { result ≡ findWordAnswer letters list.now spelling.now }
+    ensures { result ≡ find_word_answer letters list.now spelling.now }
 {
     finding::find_word(list, spelling)
 }
@@ -394,7 +394,7 @@ pub extern "C" fn concordance_find_word(list: &[u8], spelling: &[u8]) -> Answer
 // each it has written. Refusals 2, 17 and 5, in this order, leave both slices as they were.
 #[unsafe(no_mangle)]
 pub extern "C" fn concordance_make_list(text: &[u8], list: &mut [u8], ranks: &mut [u32]) -> ListMade
-    ensures { (result ≡ listMade letters text.now list.old ranks.old) × (list.new ≡ makeListExit letters text.now list.old ranks.old) × (ranks.new ≡ makeRanksExit letters text.now list.old ranks.old) }
+    ensures { (result ≡ list_made letters text.now list.old ranks.old) × (list.new ≡ make_list_exit letters text.now list.old ranks.old) × (ranks.new ≡ make_ranks_exit letters text.now list.old ranks.old) }
 {
     list_making::make_list(text, list, ranks)
 }
@@ -402,7 +402,7 @@ pub extern "C" fn concordance_make_list(text: &[u8], list: &mut [u8], ranks: &mu
 // Checks a letter table: 0 is answered exactly if it keeps the rules. Refusal 18.
 #[unsafe(no_mangle)]
 pub extern "C" fn concordance_check_letters(table: &[u8]) -> Answer
-    ensures { result ≡ tableAnswer table.now }
+    ensures { result ≡ table_answer table.now }
 {
     lexicon::check_table(table)
 }
@@ -418,7 +418,7 @@ pub extern "C" fn concordance_read_text_with(
     text: &[u8],
     ranks: &mut [u32],
 ) -> Answer
-    ensures { (result ≡ readTextWithAnswer table.now list.now text.now ranks.old) × (ranks.new ≡ readTextWithExit table.now list.now text.now ranks.old) }
+    ensures { (result ≡ read_text_with_answer table.now list.now text.now ranks.old) × (ranks.new ≡ read_text_with_exit table.now list.now text.now ranks.old) }
 {
     lent_tables::read_text_with(table, list, text, ranks)
 }
@@ -428,7 +428,7 @@ pub extern "C" fn concordance_read_text_with(
 // separator. Refusals 18, then 1 and 13, by the lent table.
 #[unsafe(no_mangle)]
 pub extern "C" fn concordance_find_word_with(table: &[u8], list: &[u8], spelling: &[u8]) -> Answer
-    ensures { result ≡ findWordWithAnswer table.now list.now spelling.now }
+    ensures { result ≡ find_word_with_answer table.now list.now spelling.now }
 {
     lent_tables::find_word_with(table, list, spelling)
 }
@@ -443,7 +443,7 @@ pub extern "C" fn concordance_make_list_with(
     list: &mut [u8],
     ranks: &mut [u32],
 ) -> ListMade
-    ensures { (result ≡ listMadeWith table.now text.now list.old ranks.old) × (list.new ≡ makeListWithExit table.now text.now list.old ranks.old) × (ranks.new ≡ makeRanksWithExit table.now text.now list.old ranks.old) }
+    ensures { (result ≡ list_made_with table.now text.now list.old ranks.old) × (list.new ≡ make_list_with_exit table.now text.now list.old ranks.old) × (ranks.new ≡ make_ranks_with_exit table.now text.now list.old ranks.old) }
 {
     lent_tables::make_list_with(table, text, list, ranks)
 }

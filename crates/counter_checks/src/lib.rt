@@ -2,7 +2,7 @@
 // its 256 counters are compared. Inner functions: their callers have checked the sizes.
 ghost use Rattle.std.specs.Prelude.{◌≡◌, ◌+◌, ◌*◌, ◌/◌, ◌≤◌, suc, length, take, drop};
 ghost use Rattle.base.specs.Lists.{Below, same};
-ghost use Rattle.directory.specs.Counters.{isDirectory, Sizes};
+ghost use Rattle.directory.specs.Counters.{is_directory, Sizes};
 ghost use Rattle.tallies.specs.Tallies.{counters, Reached, Passed};
 
 // Whether a superblock row is 256 totals.
@@ -65,7 +65,7 @@ fn verify_superblock(
 // Whether the two slices are the directory of the bytes, neither longer nor shorter.
 pub fn verify(bytes: &[u8], superblocks: &[u32], blocks: &[u16], block: usize, per: usize) -> bool
     requires { Sizes block per bytes.now }
-    ensures { result ≡ isDirectory block per bytes.now superblocks.now blocks.now }
+    ensures { result ≡ is_directory block per bytes.now superblocks.now blocks.now }
 {
     let end = tallies::row_count(bytes.len(), block * per);
     if superblocks.len() != end * 256 {

@@ -4,9 +4,9 @@ ghost use Rattle.std.specs.Prelude.{◌≡◌, ◌+◌, ◌*◌, ◌/◌, ◌≤
 ghost use Rattle.std.proofs.Math.Seq.{paste};
 ghost use Rattle.base.specs.Lists.{Below};
 ghost use Rattle.base.specs.Answers.{front};
-ghost use Rattle.directory.specs.Counters.{superblockRow, block_row, superblockRows, blockRows, Sizes};
-ghost use Rattle.directory.specs.Tables.{firstRows};
-ghost use Rattle.tallies.specs.Tallies.{counters, rowsEnd, Reached};
+ghost use Rattle.directory.specs.Counters.{superblock_row, block_row, superblock_rows, block_rows, Sizes};
+ghost use Rattle.directory.specs.Tables.{first_rows};
+ghost use Rattle.tallies.specs.Tallies.{counters, rows_end, Reached};
 
 // Writes 256 totals as a superblock row; the rest stays.
 fn put_superblock(superblocks: &mut [u32], row: usize, totals: &[u32; 256])
@@ -45,8 +45,8 @@ fn fill_superblock(
     superblock: usize,
 )
     requires { Sizes block per bytes.now × Reached block per bytes.now blocks.old totals.old superblock × (suc (length bytes.now / block) * 256 ≤ length blocks.old) }
-    ensures { (blocks.new ≡ front (firstRows (block_row block per bytes.now) (rowsEnd block per (length bytes.now) superblock)) blocks.old)
-        × (totals.new ≡ superblockRow block per bytes.now (superblock + 1)) }
+    ensures { (blocks.new ≡ front (first_rows (block_row block per bytes.now) (rows_end block per (length bytes.now) superblock)) blocks.old)
+        × (totals.new ≡ superblock_row block per bytes.now (superblock + 1)) }
 {
     let mut lanes = [0u16; 512];
     let mut row = superblock * per;
@@ -61,9 +61,9 @@ fn fill_superblock(
 
 // Writes the directory of the bytes to the front of the two slices; the rest stays.
 pub fn fill(bytes: &[u8], superblocks: &mut [u32], blocks: &mut [u16], block: usize, per: usize)
-    requires { Sizes block per bytes.now × (length (superblockRows block per bytes.now) ≤ length superblocks.old) × (length (blockRows block per bytes.now) ≤ length blocks.old) }
-    ensures { (superblocks.new ≡ front (superblockRows block per bytes.now) superblocks.old)
-        × (blocks.new ≡ front (blockRows block per bytes.now) blocks.old) }
+    requires { Sizes block per bytes.now × (length (superblock_rows block per bytes.now) ≤ length superblocks.old) × (length (block_rows block per bytes.now) ≤ length blocks.old) }
+    ensures { (superblocks.new ≡ front (superblock_rows block per bytes.now) superblocks.old)
+        × (blocks.new ≡ front (block_rows block per bytes.now) blocks.old) }
 {
     let mut totals = [0u32; 256];
     let end = tallies::row_count(bytes.len(), block * per);

@@ -6,25 +6,25 @@ use native.Mathlib.Nat.{sub-zero}
 use native.Mathlib.Omega.{arith}
 use lib.IntN.{ℤ}
 use lib.ListN.{length}
-use Rattle.base.specs.Lists.{filterBy, rangeFrom}
+use Rattle.base.specs.Lists.{filter_by, range_from}
 use Rattle.base.proofs.Tests.{false_of}
-use Rattle.base.proofs.Filters.{filter-range-end}
-use Rattle.documents.specs.Documents.{standsIn, placesIn, neighbourIn, neighboursIn}
+use Rattle.base.proofs.Filters.{filter_range_end}
+use Rattle.documents.specs.Documents.{stands_in, places_in, neighbour_in, neighbours_in}
 use Rattle.matching.specs.declared.Sought.TheVariants.{Pair}
-use Rattle.hits.proofs.Searches.{anchored-inside}
-use Rattle.phrases.proofs.Neighbours.{neighbour-anchored}
-use Rattle.hits.specs.Hits.{hitsBetween}
+use Rattle.hits.proofs.Searches.{anchored_inside}
+use Rattle.phrases.proofs.Neighbours.{neighbour_anchored}
+use Rattle.hits.specs.Hits.{hits_between}
 
 -- those of a phrase are its places
-pub phrase-hits : (documents t ws : List ℕ) → length (hitsBetween (standsIn documents t ws) 0 (suc (length t))) ≡ length (placesIn documents t ws)
-unfolding placesIn
-phrase-hits documents t ws = ap (λ (n : ℕ). length (filterBy (standsIn documents t ws) (rangeFrom 0 n))) (sub-zero (suc (length t)))
+pub phrase_hits : (documents t ws : List ℕ) → length (hits_between (stands_in documents t ws) 0 (suc (length t))) ≡ length (places_in documents t ws)
+unfolding places_in
+phrase_hits documents t ws = ap (λ (n : ℕ). length (filter_by (stands_in documents t ws) (range_from 0 n))) (sub-zero (suc (length t)))
 
 -- those of a pair are places of the text
-pub pair-hits : (documents t : List ℕ) (w v : ℕ) (d : ℤ) → length (hitsBetween (neighbourIn documents t w v d) 0 (suc (length t))) ≡ neighboursIn documents t w v d
-unfolding neighboursIn
-pair-hits documents t w v d =
+pub pair_hits : (documents t : List ℕ) (w v : ℕ) (d : ℤ) → length (hits_between (neighbour_in documents t w v d) 0 (suc (length t))) ≡ neighbours_in documents t w v d
+unfolding neighbours_in
+pair_hits documents t w v d =
     let e : suc (length t) - 0 ≡ length t + 1 = omega arith in
-    ap (λ (n : ℕ). length (filterBy (neighbourIn documents t w v d) (rangeFrom 0 n))) e
-    ∙ ap length (filter-range-end (neighbourIn documents t w v d) 0 (length t) 1
-    (λ q h. false_of (neighbourIn documents t w v d q) (λ p. omega (arith, (anchored-inside documents t (w ∷ v ∷ []) (Pair d) w 0 (neighbour-anchored t w v d)).inside q p))))
+    ap (λ (n : ℕ). length (filter_by (neighbour_in documents t w v d) (range_from 0 n))) e
+    ∙ ap length (filter_range_end (neighbour_in documents t w v d) 0 (length t) 1
+    (λ q h. false_of (neighbour_in documents t w v d q) (λ p. omega (arith, (anchored_inside documents t (w ∷ v ∷ []) (Pair d) w 0 (neighbour_anchored t w v d)).inside q p))))

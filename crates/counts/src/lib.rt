@@ -4,13 +4,13 @@
 // No function of this crate is an entry: each requires that the four slices have passed the check,
 // and `starts` is the table that `starts::node_starts` fills.
 ghost use Rattle.std.specs.Prelude.{◌≡◌, true, suc, ◌≤◌, ◌<◌, nat_abs, length};
-ghost use Rattle.base.specs.Texts.{maxOffset};
-ghost use Rattle.index.specs.Arrays.{Arrays, arrays, textIn};
+ghost use Rattle.base.specs.Texts.{max_offset};
+ghost use Rattle.index.specs.Arrays.{Arrays, arrays, text_in};
 ghost use Rattle.words.specs.Ready.{Ready};
-ghost use Rattle.documents.specs.Documents.{isAscending, placesIn, neighboursIn};
-ghost use Rattle.matching.specs.Sought.{hitIn};
+ghost use Rattle.documents.specs.Documents.{is_ascending, places_in, neighbours_in};
+ghost use Rattle.matching.specs.Sought.{hit_in};
 ghost use Rattle.matching.specs.Searching.{Searchable, Searching, Paired};
-ghost use Rattle.hits.specs.Hits.{hitsBetween};
+ghost use Rattle.hits.specs.Hits.{hits_between};
 
 use hits::Hit;
 use index::Shape;
@@ -33,8 +33,8 @@ fn count_hits(
 ) -> usize
     ghost a: { Arrays }
     requires blocks_value { arrays lengths.now bytes.now superblocks.now blocks.now ≡ a }
-    requires searching { Searching s shape a starts.now firsts.now words.now × Paired words.now sought × (isAscending documents.now ≡ true) }
-    ensures { result ≡ length (hitsBetween (hitIn documents.now (textIn s a) words.now sought) 0 (suc (length (textIn s a)))) }
+    requires searching { Searching s shape a starts.now firsts.now words.now × Paired words.now sought × (is_ascending documents.now ≡ true) }
+    ensures { result ≡ length (hits_between (hit_in documents.now (text_in s a) words.now sought) 0 (suc (length (text_in s a)))) }
 {
     let end = Place(words::text_length(lengths) + 1);
     let mut count: usize = 0;
@@ -90,8 +90,8 @@ pub fn count_phrase(
 ) -> usize
     ghost a: { Arrays }
     requires blocks_value { arrays lengths.now bytes.now superblocks.now blocks.now ≡ a }
-    requires searchable { Searchable s shape a starts.now words.now × (isAscending documents.now ≡ true) }
-    ensures { result ≡ length (placesIn documents.now (textIn s a) words.now) }
+    requires searchable { Searchable s shape a starts.now words.now × (is_ascending documents.now ≡ true) }
+    ensures { result ≡ length (places_in documents.now (text_in s a) words.now) }
 {
     let m = words.len();
     if m == 1 {
@@ -131,8 +131,8 @@ fn count_pair(
 ) -> usize
     ghost a: { Arrays }
     requires blocks_value { arrays lengths.now bytes.now superblocks.now blocks.now ≡ a }
-    requires ready { Ready s shape a starts.now × (w < shape.vocabulary) × (v < shape.vocabulary) × (isAscending documents.now ≡ true) }
-    ensures { result ≡ neighboursIn documents.now (textIn s a) w v offset }
+    requires ready { Ready s shape a starts.now × (w < shape.vocabulary) × (v < shape.vocabulary) × (is_ascending documents.now ≡ true) }
+    ensures { result ≡ neighbours_in documents.now (text_in s a) w v offset }
 {
     let pair = [w, v];
     let mut table = [0u8; 2];
@@ -169,8 +169,8 @@ pub fn neighbours(
 ) -> usize
     ghost a: { Arrays }
     requires blocks_value { arrays lengths.now bytes.now superblocks.now blocks.now ≡ a }
-    requires ready { Ready s shape a starts.now × (w < shape.vocabulary) × (v < shape.vocabulary) × (nat_abs offset ≤ maxOffset) × (isAscending documents.now ≡ true) }
-    ensures { result ≡ neighboursIn documents.now (textIn s a) w v offset }
+    requires ready { Ready s shape a starts.now × (w < shape.vocabulary) × (v < shape.vocabulary) × (nat_abs offset ≤ max_offset) × (is_ascending documents.now ≡ true) }
+    ensures { result ≡ neighbours_in documents.now (text_in s a) w v offset }
 {
     let one = w as usize;
     let other = v as usize;

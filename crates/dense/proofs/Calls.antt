@@ -8,157 +8,157 @@ use lib.Dec.{ltb, leb, eqb}
 use lib.ListN.{length, take, drop}
 use lib.Seq.{take-append_seam}
 use Rattle.base.specs.declared.Answer.{Answer}
-use Rattle.base.specs.Lists.{Below, firstWhere}
-use Rattle.base.specs.Refusals.{refusalVocabulary, refusalWords, refusalTextRank, refusalShortSlice, refusalStream}
-use Rattle.base.specs.Answers.{accepted, refused, refusedAt, isAccepted, ◌⇒◌, NoneHolds, front}
-use Rattle.base.specs.Texts.{maxWords, outside, ranksBelow, wordsCase, rankCase}
-use Rattle.base.proofs.Tests.{inside-range, range_inside}
-use Rattle.base.proofs.Answers.{first-here, first-later, none-holds, answers, filled-not, filled-front}
-use Rattle.base.proofs.Texts.{below-of-test, test-of-below}
-use Rattle.dense.specs.Code.{maxVocabulary, vocabularyCase}
-use Rattle.dense.specs.Streams.{stream, isBroken, streamText, closings, writeStreamAnswer, writeStreamExit, readStreamAnswer, readStreamExit}
+use Rattle.base.specs.Lists.{Below, first_where}
+use Rattle.base.specs.Refusals.{refusal_vocabulary, refusal_words, refusal_text_rank, refusal_short_slice, refusal_stream}
+use Rattle.base.specs.Answers.{accepted, refused, refused_at, is_accepted, ◌⇒◌, NoneHolds, front}
+use Rattle.base.specs.Texts.{max_words, outside, ranks_below, words_case, rank_case}
+use Rattle.base.proofs.Tests.{inside_range, range_inside}
+use Rattle.base.proofs.Answers.{first_here, first_later, none_holds, answers, filled_not, filled_front}
+use Rattle.base.proofs.Texts.{below_of_test, test_of_below}
+use Rattle.dense.specs.Code.{max_vocabulary, vocabulary_case}
+use Rattle.dense.specs.Streams.{stream, is_broken, stream_text, closings, write_stream_answer, write_stream_exit, read_stream_answer, read_stream_exit}
 
 -- what the call that writes a stream asks of the vocabulary, the text and the slice
 pub record Writable (s vocab : ℕ) (t z : List ℕ) : Type 0 where
-  pub someWord : 1 ≤ vocab
-  pub mostWords : vocab ≤ maxVocabulary s
-  pub short : length t ≤ maxWords
+  pub some_word : 1 ≤ vocab
+  pub most_words : vocab ≤ max_vocabulary s
+  pub short : length t ≤ max_words
   pub ranks : Below vocab t
   pub room : length (stream s t) ≤ length z
 
 -- the call is accepted exactly if it has that
-pub writable-accepted : (s vocab : ℕ) (t z : List ℕ) → Writable s vocab t z → writeStreamAnswer s vocab t z ≡ accepted (length (stream s t))
-unfolding writeStreamAnswer vocabularyCase wordsCase rankCase
-writable-accepted s vocab t z w =
+pub writable_accepted : (s vocab : ℕ) (t z : List ℕ) → Writable s vocab t z → write_stream_answer s vocab t z ≡ accepted (length (stream s t))
+unfolding write_stream_answer vocabulary_case words_case rank_case
+writable_accepted s vocab t z w =
     answers
-    (vocabularyCase s vocab ∷ wordsCase (length t) ∷ rankCase vocab t ∷ (ltb (length z) (length (stream s t)) ⇒ refused refusalShortSlice) ∷ [])
+    (vocabulary_case s vocab ∷ words_case (length t) ∷ rank_case vocab t ∷ (ltb (length z) (length (stream s t)) ⇒ refused refusal_short_slice) ∷ [])
     (accepted (length (stream s t)))
-    (inside-range 1 (maxVocabulary s) vocab w.someWord w.mostWords, (le-ltb maxWords (length t) w.short, (ap not (test-of-below vocab t w.ranks), (le-ltb (length z) (length (stream s t)) w.room, tt))))
+    (inside_range 1 (max_vocabulary s) vocab w.some_word w.most_words, (le-ltb max_words (length t) w.short, (ap not (test_of_below vocab t w.ranks), (le-ltb (length z) (length (stream s t)) w.room, tt))))
 
-pub accepted-writable : (s vocab : ℕ) (t z : List ℕ) → (writeStreamAnswer s vocab t z).refusal ≡ 0 → Writable s vocab t z
-unfolding writeStreamAnswer vocabularyCase wordsCase rankCase
-accepted-writable s vocab t z e =
-    let n : NoneHolds (vocabularyCase s vocab ∷ wordsCase (length t) ∷ rankCase vocab t ∷ (ltb (length z) (length (stream s t)) ⇒ refused refusalShortSlice) ∷ []) =
-    none-holds
-    (vocabularyCase s vocab ∷ wordsCase (length t) ∷ rankCase vocab t ∷ (ltb (length z) (length (stream s t)) ⇒ refused refusalShortSlice) ∷ [])
+pub accepted_writable : (s vocab : ℕ) (t z : List ℕ) → (write_stream_answer s vocab t z).refusal ≡ 0 → Writable s vocab t z
+unfolding write_stream_answer vocabulary_case words_case rank_case
+accepted_writable s vocab t z e =
+    let n : NoneHolds (vocabulary_case s vocab ∷ words_case (length t) ∷ rank_case vocab t ∷ (ltb (length z) (length (stream s t)) ⇒ refused refusal_short_slice) ∷ []) =
+    none_holds
+    (vocabulary_case s vocab ∷ words_case (length t) ∷ rank_case vocab t ∷ (ltb (length z) (length (stream s t)) ⇒ refused refusal_short_slice) ∷ [])
     (accepted (length (stream s t)))
     (refl, (refl, (refl, (refl, tt))))
-    (eq-eqb (writeStreamAnswer s vocab t z).refusal 0 e) in
+    (eq-eqb (write_stream_answer s vocab t z).refusal 0 e) in
     record {
-      someWord = (range_inside 1 (maxVocabulary s) vocab n.0).0;
-      mostWords = (range_inside 1 (maxVocabulary s) vocab n.0).1;
-      short = ltb-false maxWords (length t) n.1.0;
-      ranks = below-of-test vocab t (not-false (ranksBelow vocab t) n.1.1.0);
+      some_word = (range_inside 1 (max_vocabulary s) vocab n.0).0;
+      most_words = (range_inside 1 (max_vocabulary s) vocab n.0).1;
+      short = ltb-false max_words (length t) n.1.0;
+      ranks = below_of_test vocab t (not-false (ranks_below vocab t) n.1.1.0);
       room = ltb-false (length z) (length (stream s t)) n.1.1.1.0;
     }
 
 -- and has then written the stream to the front
-pub writable-written : (s vocab : ℕ) (t z : List ℕ) → Writable s vocab t z → take (length (stream s t)) (writeStreamExit s vocab t z) ≡ stream s t
-unfolding writeStreamExit
-writable-written s vocab t z w =
+pub writable_written : (s vocab : ℕ) (t z : List ℕ) → Writable s vocab t z → take (length (stream s t)) (write_stream_exit s vocab t z) ≡ stream s t
+unfolding write_stream_exit
+writable_written s vocab t z w =
     ap (take (length (stream s t)))
-    (filled-front (writeStreamAnswer s vocab t z) (stream s t) z (ap isAccepted (writable-accepted s vocab t z w)))
+    (filled_front (write_stream_answer s vocab t z) (stream s t) z (ap is_accepted (writable_accepted s vocab t z w)))
     ∙ take-append_seam (stream s t) (drop (length (stream s t)) z)
 
 -- the refusals of the call that writes, in their order
 module _ (s vocab : ℕ) (t z : List ℕ) where
-  pub write-vocabulary : outside 1 (maxVocabulary s) vocab ≡ true → writeStreamAnswer s vocab t z ≡ refused refusalVocabulary
-  unfolding writeStreamAnswer vocabularyCase
-  write-vocabulary e = first-here _ _ _ _ e
+  pub write_vocabulary : outside 1 (max_vocabulary s) vocab ≡ true → write_stream_answer s vocab t z ≡ refused refusal_vocabulary
+  unfolding write_stream_answer vocabulary_case
+  write_vocabulary e = first_here _ _ _ _ e
 
-  module _ (vocabulary : outside 1 (maxVocabulary s) vocab ≡ false) where
-    pub write-words : maxWords < length t → writeStreamAnswer s vocab t z ≡ refused refusalWords
-    unfolding writeStreamAnswer vocabularyCase wordsCase
-    write-words h = first-later _ _ _ _ vocabulary ∙ first-here _ _ _ _ (lt-ltb maxWords (length t) h)
+  module _ (vocabulary : outside 1 (max_vocabulary s) vocab ≡ false) where
+    pub write_words_lem : max_words < length t → write_stream_answer s vocab t z ≡ refused refusal_words
+    unfolding write_stream_answer vocabulary_case words_case
+    write_words_lem h = first_later _ _ _ _ vocabulary ∙ first_here _ _ _ _ (lt-ltb max_words (length t) h)
 
-    module _ (words : length t ≤ maxWords) where
-      pub write-rank : ranksBelow vocab t ≡ false → writeStreamAnswer s vocab t z ≡ refusedAt refusalTextRank (firstWhere (λ (w : ℕ). leb vocab w) t)
-      unfolding writeStreamAnswer vocabularyCase wordsCase rankCase
-      write-rank e = first-later _ _ _ _ vocabulary ∙ first-later _ _ _ _ (le-ltb maxWords (length t) words) ∙ first-here _ _ _ _ (ap not e)
+    module _ (words : length t ≤ max_words) where
+      pub write_rank : ranks_below vocab t ≡ false → write_stream_answer s vocab t z ≡ refused_at refusal_text_rank (first_where (λ (w : ℕ). leb vocab w) t)
+      unfolding write_stream_answer vocabulary_case words_case rank_case
+      write_rank e = first_later _ _ _ _ vocabulary ∙ first_later _ _ _ _ (le-ltb max_words (length t) words) ∙ first_here _ _ _ _ (ap not e)
 
-      pub write-short : ranksBelow vocab t ≡ true → length z < length (stream s t) → writeStreamAnswer s vocab t z ≡ refused refusalShortSlice
-      unfolding writeStreamAnswer vocabularyCase wordsCase rankCase
-      write-short e h =
-          first-later _ _ _ _ vocabulary ∙ first-later _ _ _ _ (le-ltb maxWords (length t) words) ∙ first-later _ _ _ _ (ap not e)
-          ∙ first-here _ _ _ _ (lt-ltb (length z) (length (stream s t)) h)
+      pub write_short : ranks_below vocab t ≡ true → length z < length (stream s t) → write_stream_answer s vocab t z ≡ refused refusal_short_slice
+      unfolding write_stream_answer vocabulary_case words_case rank_case
+      write_short e h =
+          first_later _ _ _ _ vocabulary ∙ first_later _ _ _ _ (le-ltb max_words (length t) words) ∙ first_later _ _ _ _ (ap not e)
+          ∙ first_here _ _ _ _ (lt-ltb (length z) (length (stream s t)) h)
 
   -- a refused call returns the answer and leaves the slice
-  pub write-refused : (number at : ℕ) → eqb number 0 ≡ false → writeStreamAnswer s vocab t z ≡ refusedAt number at
-      → (r : Answer) → r ≡ refusedAt number at → (r ≡ writeStreamAnswer s vocab t z) × (z ≡ writeStreamExit s vocab t z)
-  unfolding writeStreamExit
-  write-refused number at n e r q = (q ∙ sym e, sym (filled-not (writeStreamAnswer s vocab t z) (stream s t) z (ap isAccepted e ∙ n)))
+  pub write_refused_lem : (number at : ℕ) → eqb number 0 ≡ false → write_stream_answer s vocab t z ≡ refused_at number at
+      → (r : Answer) → r ≡ refused_at number at → (r ≡ write_stream_answer s vocab t z) × (z ≡ write_stream_exit s vocab t z)
+  unfolding write_stream_exit
+  write_refused_lem number at n e r q = (q ∙ sym e, sym (filled_not (write_stream_answer s vocab t z) (stream s t) z (ap is_accepted e ∙ n)))
 
   -- an accepted call returns the number of bytes and has the stream in front
-  pub write-accepted : Writable s vocab t z → (r : Answer) (bytes : List ℕ) → r ≡ accepted (length (stream s t)) → bytes ≡ front (stream s t) z
-      → (r ≡ writeStreamAnswer s vocab t z) × (bytes ≡ writeStreamExit s vocab t z)
-  unfolding writeStreamExit front
-  write-accepted w r bytes q e = (
-    q ∙ sym (writable-accepted s vocab t z w),
-    e ∙ sym (filled-front (writeStreamAnswer s vocab t z) (stream s t) z (ap isAccepted (writable-accepted s vocab t z w))),
+  pub write_accepted : Writable s vocab t z → (r : Answer) (bytes : List ℕ) → r ≡ accepted (length (stream s t)) → bytes ≡ front (stream s t) z
+      → (r ≡ write_stream_answer s vocab t z) × (bytes ≡ write_stream_exit s vocab t z)
+  unfolding write_stream_exit front
+  write_accepted w r bytes q e = (
+    q ∙ sym (writable_accepted s vocab t z w),
+    e ∙ sym (filled_front (write_stream_answer s vocab t z) (stream s t) z (ap is_accepted (writable_accepted s vocab t z w))),
   )
 
 -- the refusals of the call that reads, in their order
 module _ (s : ℕ) (bytes z : List ℕ) where
-  pub read-words : maxWords < closings s bytes → readStreamAnswer s bytes z ≡ refused refusalWords
-  unfolding readStreamAnswer wordsCase
-  read-words h = first-here _ _ _ _ (lt-ltb maxWords (closings s bytes) h)
+  pub read_words : max_words < closings s bytes → read_stream_answer s bytes z ≡ refused refusal_words
+  unfolding read_stream_answer words_case
+  read_words h = first_here _ _ _ _ (lt-ltb max_words (closings s bytes) h)
 
-  module _ (words : closings s bytes ≤ maxWords) where
-    pub read_short : length z < closings s bytes → readStreamAnswer s bytes z ≡ refused refusalShortSlice
-    unfolding readStreamAnswer wordsCase
-    read_short h = first-later _ _ _ _ (le-ltb maxWords (closings s bytes) words) ∙ first-here _ _ _ _ (lt-ltb (length z) (closings s bytes) h)
+  module _ (words : closings s bytes ≤ max_words) where
+    pub read_short : length z < closings s bytes → read_stream_answer s bytes z ≡ refused refusal_short_slice
+    unfolding read_stream_answer words_case
+    read_short h = first_later _ _ _ _ (le-ltb max_words (closings s bytes) words) ∙ first_here _ _ _ _ (lt-ltb (length z) (closings s bytes) h)
 
-    pub read-broken : closings s bytes ≤ length z → isBroken s bytes ≡ true → readStreamAnswer s bytes z ≡ refused refusalStream
-    unfolding readStreamAnswer wordsCase
-    read-broken h e =
-        first-later _ _ _ _ (le-ltb maxWords (closings s bytes) words) ∙ first-later _ _ _ _ (le-ltb (length z) (closings s bytes) h) ∙ first-here _ _ _ _ e
+    pub read_broken : closings s bytes ≤ length z → is_broken s bytes ≡ true → read_stream_answer s bytes z ≡ refused refusal_stream
+    unfolding read_stream_answer words_case
+    read_broken h e =
+        first_later _ _ _ _ (le-ltb max_words (closings s bytes) words) ∙ first_later _ _ _ _ (le-ltb (length z) (closings s bytes) h) ∙ first_here _ _ _ _ e
 
 -- what the call that reads a stream asks of the bytes and the slice
 pub record Readable (s : ℕ) (bytes z : List ℕ) : Type 0 where
-  pub short : closings s bytes ≤ maxWords
+  pub short : closings s bytes ≤ max_words
   pub room : closings s bytes ≤ length z
-  pub whole : isBroken s bytes ≡ false
+  pub whole : is_broken s bytes ≡ false
 
 -- the call is accepted exactly if it has that
-pub readable-accepted : (s : ℕ) (bytes z : List ℕ) → Readable s bytes z → readStreamAnswer s bytes z ≡ accepted (closings s bytes)
-unfolding readStreamAnswer wordsCase
-readable-accepted s bytes z r =
+pub readable_accepted : (s : ℕ) (bytes z : List ℕ) → Readable s bytes z → read_stream_answer s bytes z ≡ accepted (closings s bytes)
+unfolding read_stream_answer words_case
+readable_accepted s bytes z r =
     answers
-    (wordsCase (closings s bytes) ∷ (ltb (length z) (closings s bytes) ⇒ refused refusalShortSlice) ∷ (isBroken s bytes ⇒ refused refusalStream) ∷ [])
+    (words_case (closings s bytes) ∷ (ltb (length z) (closings s bytes) ⇒ refused refusal_short_slice) ∷ (is_broken s bytes ⇒ refused refusal_stream) ∷ [])
     (accepted (closings s bytes))
-    (le-ltb maxWords (closings s bytes) r.short, (le-ltb (length z) (closings s bytes) r.room, (r.whole, tt)))
+    (le-ltb max_words (closings s bytes) r.short, (le-ltb (length z) (closings s bytes) r.room, (r.whole, tt)))
 
-pub accepted-readable : (s : ℕ) (bytes z : List ℕ) → (readStreamAnswer s bytes z).refusal ≡ 0 → Readable s bytes z
-unfolding readStreamAnswer wordsCase
-accepted-readable s bytes z e =
-    let n : NoneHolds (wordsCase (closings s bytes) ∷ (ltb (length z) (closings s bytes) ⇒ refused refusalShortSlice) ∷ (isBroken s bytes ⇒ refused refusalStream) ∷ []) =
-    none-holds
-    (wordsCase (closings s bytes) ∷ (ltb (length z) (closings s bytes) ⇒ refused refusalShortSlice) ∷ (isBroken s bytes ⇒ refused refusalStream) ∷ [])
+pub accepted_readable : (s : ℕ) (bytes z : List ℕ) → (read_stream_answer s bytes z).refusal ≡ 0 → Readable s bytes z
+unfolding read_stream_answer words_case
+accepted_readable s bytes z e =
+    let n : NoneHolds (words_case (closings s bytes) ∷ (ltb (length z) (closings s bytes) ⇒ refused refusal_short_slice) ∷ (is_broken s bytes ⇒ refused refusal_stream) ∷ []) =
+    none_holds
+    (words_case (closings s bytes) ∷ (ltb (length z) (closings s bytes) ⇒ refused refusal_short_slice) ∷ (is_broken s bytes ⇒ refused refusal_stream) ∷ [])
     (accepted (closings s bytes))
     (refl, (refl, (refl, tt)))
-    (eq-eqb (readStreamAnswer s bytes z).refusal 0 e) in
-    record { short = ltb-false maxWords (closings s bytes) n.0; room = ltb-false (length z) (closings s bytes) n.1.0; whole = n.1.1.0 }
+    (eq-eqb (read_stream_answer s bytes z).refusal 0 e) in
+    record { short = ltb-false max_words (closings s bytes) n.0; room = ltb-false (length z) (closings s bytes) n.1.0; whole = n.1.1.0 }
 
 -- and has then written the text to the front
-pub readable-read : (s : ℕ) (bytes z : List ℕ) → Readable s bytes z → take (length (streamText s bytes)) (readStreamExit s bytes z) ≡ streamText s bytes
-unfolding readStreamExit
-readable-read s bytes z r =
-    ap (take (length (streamText s bytes)))
-    (filled-front (readStreamAnswer s bytes z) (streamText s bytes) z (ap isAccepted (readable-accepted s bytes z r)))
-    ∙ take-append_seam (streamText s bytes) (drop (length (streamText s bytes)) z)
+pub readable_read : (s : ℕ) (bytes z : List ℕ) → Readable s bytes z → take (length (stream_text s bytes)) (read_stream_exit s bytes z) ≡ stream_text s bytes
+unfolding read_stream_exit
+readable_read s bytes z r =
+    ap (take (length (stream_text s bytes)))
+    (filled_front (read_stream_answer s bytes z) (stream_text s bytes) z (ap is_accepted (readable_accepted s bytes z r)))
+    ∙ take-append_seam (stream_text s bytes) (drop (length (stream_text s bytes)) z)
 
 module _ (s : ℕ) (bytes z : List ℕ) where
   -- a refused call returns the answer and leaves the slice
-  pub read-refused : (number : ℕ) → eqb number 0 ≡ false → readStreamAnswer s bytes z ≡ refused number
-      → (r : Answer) → r ≡ refused number → (r ≡ readStreamAnswer s bytes z) × (z ≡ readStreamExit s bytes z)
-  unfolding readStreamExit
-  read-refused number n e r q = (q ∙ sym e, sym (filled-not (readStreamAnswer s bytes z) (streamText s bytes) z (ap isAccepted e ∙ n)))
+  pub read_refused_lem : (number : ℕ) → eqb number 0 ≡ false → read_stream_answer s bytes z ≡ refused number
+      → (r : Answer) → r ≡ refused number → (r ≡ read_stream_answer s bytes z) × (z ≡ read_stream_exit s bytes z)
+  unfolding read_stream_exit
+  read_refused_lem number n e r q = (q ∙ sym e, sym (filled_not (read_stream_answer s bytes z) (stream_text s bytes) z (ap is_accepted e ∙ n)))
 
   -- an accepted call returns the number of words and has the text in front
-  pub read-accepted : Readable s bytes z → (r : Answer) (t : List ℕ) → r ≡ accepted (closings s bytes) → t ≡ front (streamText s bytes) z
-      → (r ≡ readStreamAnswer s bytes z) × (t ≡ readStreamExit s bytes z)
-  unfolding readStreamExit front
-  read-accepted w r t q e = (
-    q ∙ sym (readable-accepted s bytes z w),
-    e ∙ sym (filled-front (readStreamAnswer s bytes z) (streamText s bytes) z (ap isAccepted (readable-accepted s bytes z w))),
+  pub read_accepted : Readable s bytes z → (r : Answer) (t : List ℕ) → r ≡ accepted (closings s bytes) → t ≡ front (stream_text s bytes) z
+      → (r ≡ read_stream_answer s bytes z) × (t ≡ read_stream_exit s bytes z)
+  unfolding read_stream_exit front
+  read_accepted w r t q e = (
+    q ∙ sym (readable_accepted s bytes z w),
+    e ∙ sym (filled_front (read_stream_answer s bytes z) (stream_text s bytes) z (ap is_accepted (readable_accepted s bytes z w))),
   )

@@ -2,36 +2,36 @@
 use mathlib.Core.Path.{refl}
 use mathlib.Core.List.{flatten}
 use Rattle.base.specs.Answers.{first_of, front, filled}
-use Rattle.base.specs.Texts.{outside, ranksBelow, wordsCase, rankCase}
-use Rattle.dense.specs.Code.{vocabularyCase, code}
-use Rattle.dense.specs.Streams.{stream, codewords, isBroken, streamText, closings, writeStreamAnswer, writeStreamExit, readStreamAnswer, readStreamExit}
+use Rattle.base.specs.Texts.{outside, ranks_below, words_case, rank_case}
+use Rattle.dense.specs.Code.{vocabulary_case, code}
+use Rattle.dense.specs.Streams.{stream, codewords, is_broken, stream_text, closings, write_stream_answer, write_stream_exit, read_stream_answer, read_stream_exit}
 use Rattle.dense.specs.Samples.{PublishedCodes, StreamSamples}
 
-pub published-codes : PublishedCodes
+pub published_codes : PublishedCodes
 unfolding code
-published-codes = refl
+published_codes = refl
 
-pub stream-samples : StreamSamples
-unfolding flatten first_of front filled outside ranksBelow wordsCase rankCase vocabularyCase code stream codewords isBroken streamText closings writeStreamAnswer writeStreamExit readStreamAnswer readStreamExit
-stream-samples =
+pub stream_samples : StreamSamples
+unfolding flatten first_of front filled outside ranks_below words_case rank_case vocabulary_case code stream codewords is_broken stream_text closings write_stream_answer write_stream_exit read_stream_answer read_stream_exit
+stream_samples =
     record {
-      mostWords = refl;
+      most_words = refl;
       written = refl;
       read = refl;
-      endsInside = refl;
-      fourBytes = refl;
+      ends_inside = refl;
+      four_bytes = refl;
       empty = refl;
-      shortFirst = refl;
-      brokenLong = refl;
-      readAnswer = refl;
-      readExit = refl;
-      readRefused = refl;
+      short_first = refl;
+      broken_long = refl;
+      read_answer = refl;
+      read_exit = refl;
+      read_refused = refl;
       no_word = refl;
-      pastLimit = refl;
-      atLimit = refl;
-      rankIsV = refl;
-      shortSlice = refl;
-      writeAnswer = refl;
-      writeExit = refl;
-      writeRefused = refl;
+      past_limit = refl;
+      at_limit = refl;
+      rank_is_v = refl;
+      short_slice = refl;
+      write_answer = refl;
+      write_exit = refl;
+      write_refused = refl;
     }

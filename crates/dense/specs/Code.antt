@@ -1,7 +1,7 @@
 -- The code of paper 01, over the number s of closing byte values: s is 128 there, and the c = 256 - s values below them say that
 -- another byte follows.
 use Rattle.std.specs.Prelude.{ℕ, ◌+◌, ◌*◌, ◌-◌, ◌/◌, ◌%◌, ◌≤◌, ◌<◌, Bool, cond, List, [], ◌∷◌, leb, ltb}
-use Rattle.base.specs.Refusals.{refusalVocabulary}
+use Rattle.base.specs.Refusals.{refusal_vocabulary}
 use Rattle.base.specs.Answers.{refused, Case, ◌⇒◌}
 use Rattle.base.specs.Texts.{outside}
 
@@ -19,19 +19,19 @@ abbrev pub closes : ℕ → ℕ → Bool
 closes s b = leb (continuing s) b
 
 -- the most words of a vocabulary, all codewords of one, two and three bytes: 2,113,664 for s = 128
-abbrev pub maxVocabulary : ℕ → ℕ
-maxVocabulary s = s * (1 + continuing s + continuing s * continuing s)
+abbrev pub max_vocabulary : ℕ → ℕ
+max_vocabulary s = s * (1 + continuing s + continuing s * continuing s)
 
 -- refusal 1: V outside its limits
-unfoldable pub vocabularyCase : ℕ → ℕ → Case
-vocabularyCase s vocab = outside 1 (maxVocabulary s) vocab ⇒ refused refusalVocabulary
+unfoldable pub vocabulary_case : ℕ → ℕ → Case
+vocabulary_case s vocab = outside 1 (max_vocabulary s) vocab ⇒ refused refusal_vocabulary
 
 -- the first rank of two bytes, and of three
-abbrev pub firstOfTwo : ℕ → ℕ
-firstOfTwo s = s
+abbrev pub first_of_two : ℕ → ℕ
+first_of_two s = s
 
-abbrev pub firstOfThree : ℕ → ℕ
-firstOfThree s = s + s * continuing s
+abbrev pub first_of_three : ℕ → ℕ
+first_of_three s = s + s * continuing s
 
 -- the number x in two digits, highest first, with c added to the last
 abbrev pub two : ℕ → ℕ → List ℕ
@@ -45,15 +45,15 @@ three s x = (x / s / continuing s) ∷ (x / s % continuing s) ∷ (continuing s 
 -- first rank of that length is written in digits.
 unfoldable pub code : ℕ → ℕ → List ℕ
 code s i =
-    cond (ltb i (firstOfTwo s)) ((continuing s + i) ∷ [])
-    (cond (ltb i (firstOfThree s)) (two s (i - firstOfTwo s)) (three s (i - firstOfThree s)))
+    cond (ltb i (first_of_two s)) ((continuing s + i) ∷ [])
+    (cond (ltb i (first_of_three s)) (two s (i - first_of_two s)) (three s (i - first_of_three s)))
 
 -- the rank of a codeword: the first rank of its length plus the number that its digits write; 0 for what is no codeword
 abbrev pub rank_of : ℕ → List ℕ → ℕ
 rank_of s [] = 0
 rank_of s (a ∷ []) = a - continuing s
-rank_of s (a ∷ b ∷ []) = firstOfTwo s + (s * a + (b - continuing s))
-rank_of s (a ∷ b ∷ e ∷ []) = firstOfThree s + (s * (continuing s * a + b) + (e - continuing s))
+rank_of s (a ∷ b ∷ []) = first_of_two s + (s * a + (b - continuing s))
+rank_of s (a ∷ b ∷ e ∷ []) = first_of_three s + (s * (continuing s * a + b) + (e - continuing s))
 rank_of s (a ∷ b ∷ e ∷ f ∷ rest) = 0
 
 -- a codeword: continuing bytes, and then one closing byte

@@ -3,7 +3,7 @@
 ghost use Rattle.std.specs.Prelude.{◌≡◌};
 ghost use Rattle.dense.specs.Code.{Closing};
 ghost use Rattle.index.specs.Arrays.{arrays};
-ghost use Rattle.questions.specs.Answering.{checkAnswerIn};
+ghost use Rattle.questions.specs.Answering.{check_answer_in};
 
 use base::{Answer, refusal};
 use index::Shape;
@@ -20,7 +20,7 @@ pub fn check_in_documents(
     documents: &[u32],
 ) -> Answer
     requires { Closing s }
-    ensures { result ≡ checkAnswerIn s shape (arrays lengths.now bytes.now superblocks.now blocks.now) documents.now }
+    ensures { result ≡ check_answer_in s shape (arrays lengths.now bytes.now superblocks.now blocks.now) documents.now }
 {
     let checked = checking::check_of(s, shape, lengths, bytes, superblocks, blocks);
     if checked.refusal != 0 {

@@ -4,10 +4,10 @@
 // No function of this crate is an entry: `count_by_document` requires that the four slices have
 // passed the check, and that the document starts keep the rules.
 ghost use Rattle.std.specs.Prelude.{◌≡◌, true, map, ◌+◌, ◌-◌, ◌≤◌, ◌<◌, length, get_or, set};
-ghost use Rattle.base.specs.Lists.{rangeFrom};
+ghost use Rattle.base.specs.Lists.{range_from};
 ghost use Rattle.base.specs.Answers.{front};
-ghost use Rattle.index.specs.Arrays.{Arrays, arrays, textIn};
-ghost use Rattle.documents.specs.Documents.{isAscending, areStarts, documentOf, countsByDocument};
+ghost use Rattle.index.specs.Arrays.{Arrays, arrays, text_in};
+ghost use Rattle.documents.specs.Documents.{is_ascending, are_starts, document_of, counts_by_document};
 ghost use Rattle.matching.specs.Searching.{Searching};
 
 use hits::Hit;
@@ -18,7 +18,7 @@ use tree::Place;
 // Writes 0 to the first so many elements of a slice.
 pub fn clear_counts(counts: &mut [u32], size: usize)
     requires { size ≤ length counts.old }
-    ensures { counts.new ≡ front (map (λ k. 0) (rangeFrom 0 size)) counts.old }
+    ensures { counts.new ≡ front (map (λ k. 0) (range_from 0 size)) counts.old }
 {
     let mut i: usize = 0;
     while i < size {
@@ -29,9 +29,9 @@ pub fn clear_counts(counts: &mut [u32], size: usize)
 
 // Adds 1 to the count of the document that holds a place.
 fn count_place(documents: &[u32], place: Place, counts: &mut [u32])
-    requires { (isAscending documents.now ≡ true) × (1 ≤ documentOf documents.now place.0) × (documentOf documents.now place.0 ≤ length counts.old)
-        × (get_or counts.old (documentOf documents.now place.0 - 1) 0 < 4294967295) }
-    ensures { counts.new ≡ set counts.old (documentOf documents.now place.0 - 1) (get_or counts.old (documentOf documents.now place.0 - 1) 0 + 1) }
+    requires { (is_ascending documents.now ≡ true) × (1 ≤ document_of documents.now place.0) × (document_of documents.now place.0 ≤ length counts.old)
+        × (get_or counts.old (document_of documents.now place.0 - 1) 0 < 4294967295) }
+    ensures { counts.new ≡ set counts.old (document_of documents.now place.0 - 1) (get_or counts.old (document_of documents.now place.0 - 1) 0 + 1) }
 {
     let at = documents::document_of(documents, place) - 1;
     counts[at] += 1;
@@ -53,8 +53,8 @@ pub fn count_by_document(
 )
     ghost a: { Arrays }
     requires blocks_value { arrays lengths.now bytes.now superblocks.now blocks.now ≡ a }
-    requires searching { Searching s shape a starts.now firsts.now words.now × (areStarts (length (textIn s a)) documents.now ≡ true) × (length documents.now ≤ length counts.old) }
-    ensures { counts.new ≡ front (countsByDocument documents.now (textIn s a) words.now) counts.old }
+    requires searching { Searching s shape a starts.now firsts.now words.now × (are_starts (length (text_in s a)) documents.now ≡ true) × (length documents.now ≤ length counts.old) }
+    ensures { counts.new ≡ front (counts_by_document documents.now (text_in s a) words.now) counts.old }
 {
     let end = Place(words::text_length(lengths) + 1);
     clear_counts(counts, documents.len());

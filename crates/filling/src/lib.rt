@@ -3,9 +3,9 @@
 ghost use Rattle.std.specs.Prelude.{◌≡◌, ◌+◌, ◌<◌, length, get_or, set, take, replicate};
 ghost use mathlib.Core.List.{flatten};
 ghost use Rattle.base.specs.Lists.{total};
-ghost use Rattle.directory.specs.Counters.{maxBytes};
-ghost use Rattle.tree.specs.Nodes.{nodeBytes};
-ghost use Rattle.filling.specs.Filling.{firstNodes, nodeLengths, InNodes, LengthsCounted, Parted, Stands};
+ghost use Rattle.directory.specs.Counters.{max_bytes};
+ghost use Rattle.tree.specs.Nodes.{node_bytes};
+ghost use Rattle.filling.specs.Filling.{first_nodes, node_lengths, InNodes, LengthsCounted, Parted, Stands};
 
 use tree::{Place, Position};
 
@@ -22,8 +22,8 @@ fn clear(lengths: &mut [u32])
 
 // Adds 1 to the length of each node in which the word at a place has a byte.
 fn count_word(s: usize, text: &[u32], place: Place, lengths: &mut [u32])
-    requires { InNodes s (length lengths.old) text.now × (place.0 < length text.now) × LengthsCounted (λ k. nodeBytes s k (take place.0 text.now)) lengths.old }
-    ensures { LengthsCounted (λ k. nodeBytes s k (take (place.0 + 1) text.now)) lengths.new }
+    requires { InNodes s (length lengths.old) text.now × (place.0 < length text.now) × LengthsCounted (λ k. node_bytes s k (take place.0 text.now)) lengths.old }
+    ensures { LengthsCounted (λ k. node_bytes s k (take (place.0 + 1) text.now)) lengths.new }
 {
     let at = place.0;
     let word = dense::encode(s, text[at] as usize);
@@ -41,7 +41,7 @@ fn count_word(s: usize, text: &[u32], place: Place, lengths: &mut [u32])
 // Makes the lengths those of the nodes of a text.
 fn count_nodes(s: usize, text: &[u32], lengths: &mut [u32])
     requires { InNodes s (length lengths.old) text.now }
-    ensures { lengths.new ≡ nodeLengths s (length lengths.old) text.now }
+    ensures { lengths.new ≡ node_lengths s (length lengths.old) text.now }
 {
     clear(lengths);
     let mut place = 0;
@@ -62,7 +62,7 @@ fn put(part: &mut [u8], position: Position, byte: u8)
 
 // Writes a byte behind those that a node has so far, and adds 1 to the length of the node.
 fn write_byte(starts: &[u32], lengths: &mut [u32], bytes: &mut [u8], node: usize, byte: u8)
-    requires { (node < length starts.now) × (node < length lengths.old) × (get_or lengths.old node 0 < maxBytes)
+    requires { (node < length starts.now) × (node < length lengths.old) × (get_or lengths.old node 0 < max_bytes)
         × (get_or starts.now node 0 + get_or lengths.old node 0 < length bytes.old) }
     ensures { (lengths.new ≡ set lengths.old node (get_or lengths.old node 0 + 1))
         × (bytes.new ≡ set bytes.old (get_or starts.now node 0 + get_or lengths.old node 0) byte) }
@@ -83,10 +83,10 @@ fn write_word(
     bytes: &mut [u8],
 )
     requires in_nodes { InNodes s (length lengths.old) text.now × Parted s (length lengths.old) text.now starts.now bytes.old × (place.0 < length text.now) }
-    requires lengths_counted { LengthsCounted (λ k. nodeBytes s k (take place.0 text.now)) lengths.old
-        × Stands (λ k. nodeBytes s k (take place.0 text.now)) (length lengths.old) starts.now bytes.old }
-    ensures { LengthsCounted (λ k. nodeBytes s k (take (place.0 + 1) text.now)) lengths.new
-        × Stands (λ k. nodeBytes s k (take (place.0 + 1) text.now)) (length lengths.new) starts.now bytes.new }
+    requires lengths_counted { LengthsCounted (λ k. node_bytes s k (take place.0 text.now)) lengths.old
+        × Stands (λ k. node_bytes s k (take place.0 text.now)) (length lengths.old) starts.now bytes.old }
+    ensures { LengthsCounted (λ k. node_bytes s k (take (place.0 + 1) text.now)) lengths.new
+        × Stands (λ k. node_bytes s k (take (place.0 + 1) text.now)) (length lengths.new) starts.now bytes.new }
 {
     let at = place.0;
     let word = dense::encode(s, text[at] as usize);
@@ -104,8 +104,8 @@ fn write_word(
 // Writes the bytes of all words, each into the part that begins at the start of its node.
 fn write_words(s: usize, text: &[u32], starts: &[u32], lengths: &mut [u32], bytes: &mut [u8])
     requires { InNodes s (length lengths.old) text.now × Parted s (length lengths.old) text.now starts.now bytes.old }
-    ensures { (lengths.new ≡ nodeLengths s (length lengths.old) text.now)
-        × (bytes.new ≡ flatten (firstNodes s (length lengths.old) text.now)) }
+    ensures { (lengths.new ≡ node_lengths s (length lengths.old) text.now)
+        × (bytes.new ≡ flatten (first_nodes s (length lengths.old) text.now)) }
 {
     clear(lengths);
     let mut place = 0;
@@ -117,9 +117,9 @@ fn write_words(s: usize, text: &[u32], starts: &[u32], lengths: &mut [u32], byte
 
 // Makes the lengths and the bytes those of the nodes of a text.
 pub fn write_nodes(s: usize, text: &[u32], lengths: &mut [u32], bytes: &mut [u8])
-    requires { InNodes s (length lengths.old) text.now × (total (nodeLengths s (length lengths.old) text.now) ≡ length bytes.old) }
-    ensures { (lengths.new ≡ nodeLengths s (length lengths.old) text.now)
-        × (bytes.new ≡ flatten (firstNodes s (length lengths.old) text.now)) }
+    requires { InNodes s (length lengths.old) text.now × (total (node_lengths s (length lengths.old) text.now) ≡ length bytes.old) }
+    ensures { (lengths.new ≡ node_lengths s (length lengths.old) text.now)
+        × (bytes.new ≡ flatten (first_nodes s (length lengths.old) text.now)) }
 {
     let mut starts = [0u32; starts::MAX_STARTS];
     count_nodes(s, text, lengths);

@@ -2,20 +2,20 @@
 // the rules.
 ghost use Rattle.std.specs.Prelude.{◌≡◌, true, false, length};
 ghost use Rattle.base.specs.Texts.{outside};
-ghost use Rattle.dense.specs.Code.{maxVocabulary};
-ghost use Rattle.lexicon.specs.Letters.{letters as lettersOf, isTable};
-ghost use Rattle.lexicon.specs.Lexicon.{listSize, listRank, is_written};
+ghost use Rattle.dense.specs.Code.{max_vocabulary};
+ghost use Rattle.lexicon.specs.Letters.{letters as lettersOf, is_table};
+ghost use Rattle.lexicon.specs.Lexicon.{list_size, list_rank, is_written};
 ghost use Rattle.lexicon.specs.Reading.{spellings};
 ghost use Rattle.scanning.specs.Scans.{run_at};
-ghost use Rattle.finding.specs.Finding.{wordRank, findWordAnswer};
+ghost use Rattle.finding.specs.Finding.{word_rank, find_word_answer};
 
 use base::{Answer, refusal};
 
 // The number of words of a list before the first that is spelled as the word in front of a spelling;
 // all of them where none is.
 fn first_alike(table: &[u8], list: &[u8], words: usize, spelling: &[u8]) -> usize
-    requires { (isTable table.now ≡ true) × (words ≡ length (spellings table.now list.now)) }
-    ensures { result ≡ listRank (spellings table.now list.now) (run_at table.now spelling.now 0) }
+    requires { (is_table table.now ≡ true) × (words ≡ length (spellings table.now list.now)) }
+    ensures { result ≡ list_rank (spellings table.now list.now) (run_at table.now spelling.now 0) }
 {
     let mut at = scanning::word_start(table, list, 0);
     let mut rank: usize = 0;
@@ -34,8 +34,8 @@ fn first_alike(table: &[u8], list: &[u8], words: usize, spelling: &[u8]) -> usiz
 // The rank of a spelled word in a list of so many words, which are written as they must be; their
 // number where the list lacks it. A spelling with a separator is in no list.
 fn rank_of(table: &[u8], list: &[u8], words: usize, spelling: &[u8]) -> usize
-    requires { (isTable table.now ≡ true) × (is_written table.now list.now ≡ true) × (words ≡ listSize list.now) }
-    ensures { result ≡ wordRank table.now list.now spelling.now }
+    requires { (is_table table.now ≡ true) × (is_written table.now list.now ≡ true) × (words ≡ list_size list.now) }
+    ensures { result ≡ word_rank table.now list.now spelling.now }
 {
     let scan = scanning::scan_word(table, spelling, 0);
     if scan.end < spelling.len() {
@@ -46,8 +46,8 @@ fn rank_of(table: &[u8], list: &[u8], words: usize, spelling: &[u8]) -> usize
 
 // Finds a spelled word in a list of so many words, which are written as they must be.
 fn find_by_written(table: &[u8], list: &[u8], words: usize, spelling: &[u8]) -> Answer
-    requires { (isTable table.now ≡ true) × (is_written table.now list.now ≡ true) × (words ≡ listSize list.now) × (outside 1 (maxVocabulary 128) words ≡ false) }
-    ensures { result ≡ findWordAnswer table.now list.now spelling.now }
+    requires { (is_table table.now ≡ true) × (is_written table.now list.now ≡ true) × (words ≡ list_size list.now) × (outside 1 (max_vocabulary 128) words ≡ false) }
+    ensures { result ≡ find_word_answer table.now list.now spelling.now }
 {
     let mut heads = [0u32; 65536];
     let mut links = [0u32; hashing::MAX_PART];
@@ -60,8 +60,8 @@ fn find_by_written(table: &[u8], list: &[u8], words: usize, spelling: &[u8]) -> 
 
 // Finds a spelled word in a word list with a table that keeps the rules.
 pub fn find_word_by(table: &[u8], list: &[u8], spelling: &[u8]) -> Answer
-    requires { isTable table.now ≡ true }
-    ensures { result ≡ findWordAnswer table.now list.now spelling.now }
+    requires { is_table table.now ≡ true }
+    ensures { result ≡ find_word_answer table.now list.now spelling.now }
 {
     let words = list_rules::list_size(list);
     if words < 1 {
@@ -80,7 +80,7 @@ pub fn find_word_by(table: &[u8], list: &[u8], spelling: &[u8]) -> Answer
 // of the list's words where the list lacks it, as it lacks an empty spelling and one with a
 // separator. Refusals 1 and 13.
 pub fn find_word(list: &[u8], spelling: &[u8]) -> Answer
-    ensures { result ≡ findWordAnswer lettersOf list.now spelling.now }
+    ensures { result ≡ find_word_answer lettersOf list.now spelling.now }
 {
     find_word_by(&lexicon::LETTERS, list, spelling)
 }

@@ -7,7 +7,7 @@ use native.Mathlib.Numerals.{add-one}
 use lib.ListN.{length, take, drop, get_or, set, length-append, take-append-drop}
 use lib.Seq.{take-suc, length-take-le}
 use Rattle.base.specs.Answers.{written, front}
-use Rattle.base.proofs.Fronts.{written_one, written-more, length-written}
+use Rattle.base.proofs.Fronts.{written_one, written_more, length_written}
 use Rattle.formatting.specs.Writing.{Wrote}
 
 -- nothing is written
@@ -25,65 +25,65 @@ pub wrote_one : (x at : ℕ) (z : List ℕ) → at < length z → Wrote (x ∷ [
 wrote_one x at z h = record { after = refl; slice = written_one x z at h }
 
 -- where two lists have room, the first has
-pub room-first : (xs ys : List ℕ) (at n : ℕ) → at + length (xs ++ ys) ≤ n → at + length xs ≤ n
-room-first xs ys at n h = omega (arith, length-append xs ys)
+pub room_first : (xs ys : List ℕ) (at n : ℕ) → at + length (xs ++ ys) ≤ n → at + length xs ≤ n
+room_first xs ys at n h = omega (arith, length-append xs ys)
 
 module _ {xs : List ℕ} {at : ℕ} {z : List ℕ} {mid : ℕ} {y : List ℕ} (first : Wrote xs at z mid y) where
   -- the slice stays as long as it was
-  pub wrote-length : at + length xs ≤ length z → length y ≡ length z
-  wrote-length room = ap length first.slice ∙ length-written xs z at room
+  pub wrote_length : at + length xs ≤ length z → length y ≡ length z
+  wrote_length room = ap length first.slice ∙ length_written xs z at room
 
   module _ (ys : List ℕ) (room : at + length (xs ++ ys) ≤ length z) where
     -- where two lists have room, the second has room behind the first
-    pub room-second : mid + length ys ≤ length y
-    room-second = omega (arith, wrote-length (room-first xs ys at (length z) room), first.after, length-append xs ys)
+    pub room_second : mid + length ys ≤ length y
+    room_second = omega (arith, wrote_length (room_first xs ys at (length z) room), first.after, length-append xs ys)
 
     -- both are written
-    pub wrote-both : {next : ℕ} {x : List ℕ} → Wrote ys mid y next x → Wrote (xs ++ ys) at z next x
-    wrote-both second = record {
+    pub wrote_both : {next : ℕ} {x : List ℕ} → Wrote ys mid y next x → Wrote (xs ++ ys) at z next x
+    wrote_both second = record {
       after = omega (arith, first.after, second.after, length-append xs ys);
-      slice = second.slice ∙ ap₂ (λ (k : ℕ) (w : List ℕ). written ys k w) first.after first.slice ∙ written-more xs ys z at (room-first xs ys at (length z) room);
+      slice = second.slice ∙ ap₂ (λ (k : ℕ) (w : List ℕ). written ys k w) first.after first.slice ∙ written_more xs ys z at (room_first xs ys at (length z) room);
     }
 
 -- what is written from the front on
-pub wrote-front : {xs z : List ℕ} {n : ℕ} {y : List ℕ} → Wrote xs 0 z n y → (n ≡ length xs) × (y ≡ front xs z)
+pub wrote_front : {xs z : List ℕ} {n : ℕ} {y : List ℕ} → Wrote xs 0 z n y → (n ≡ length xs) × (y ≡ front xs z)
 unfolding written front
-wrote-front {xs} {z} w =
+wrote_front {xs} {z} w =
     let e : 0 + length xs ≡ length xs = omega arith in
     (w.after ∙ e, w.slice ∙ ap (λ (k : ℕ). xs ++ drop k z) e)
 
 -- four lists, written one behind another
 module _ (a b c d : List ℕ) (at : ℕ) (z : List ℕ) (room : at + length (a ++ b ++ c ++ d) ≤ length z) where
-  room-three : at + length (a ++ b ++ c) ≤ length z
-  room-three = room-first (a ++ b ++ c) d at (length z) room
+  room_three : at + length (a ++ b ++ c) ≤ length z
+  room_three = room_first (a ++ b ++ c) d at (length z) room
 
-  room-two : at + length (a ++ b) ≤ length z
-  room-two = room-first (a ++ b) c at (length z) room-three
+  room_two : at + length (a ++ b) ≤ length z
+  room_two = room_first (a ++ b) c at (length z) room_three
 
-  pub first-of-four : at + length a ≤ length z
-  first-of-four = room-first a b at (length z) room-two
+  pub first_of_four : at + length a ≤ length z
+  first_of_four = room_first a b at (length z) room_two
 
   module _ {i : ℕ} {y : List ℕ} (one : Wrote a at z i y) where
-    pub second-of-four : i + length b ≤ length y
-    second-of-four = room-second one b room-two
+    pub second_of_four : i + length b ≤ length y
+    second_of_four = room_second one b room_two
 
     module _ {j : ℕ} {x : List ℕ} (two : Wrote b i y j x) where
-      pub third-of-four : j + length c ≤ length x
-      third-of-four = room-second (wrote-both one b room-two two) c room-three
+      pub third_of_four : j + length c ≤ length x
+      third_of_four = room_second (wrote_both one b room_two two) c room_three
 
       module _ {k : ℕ} {w : List ℕ} (three : Wrote c j x k w) where
-        pub fourth-of-four : k + length d ≤ length w
-        fourth-of-four = room-second (wrote-both (wrote-both one b room-two two) c room-three three) d room
+        pub fourth_of_four : k + length d ≤ length w
+        fourth_of_four = room_second (wrote_both (wrote_both one b room_two two) c room_three three) d room
 
-        pub wrote-four : {l : ℕ} {v : List ℕ} → Wrote d k w l v → Wrote (a ++ b ++ c ++ d) at z l v
-        wrote-four four = wrote-both (wrote-both (wrote-both one b room-two two) c room-three three) d room four
+        pub wrote_four : {l : ℕ} {v : List ℕ} → Wrote d k w l v → Wrote (a ++ b ++ c ++ d) at z l v
+        wrote_four four = wrote_both (wrote_both (wrote_both one b room_two two) c room_three three) d room four
 
 -- the next element of a list is written behind those before it
-pub wrote-next : (xs : List ℕ) (at i : ℕ) (z y : List ℕ) → i < length xs → at + length xs ≤ length z → Wrote (take i xs) at z (at + i) y
+pub wrote_next : (xs : List ℕ) (at i : ℕ) (z y : List ℕ) → i < length xs → at + length xs ≤ length z → Wrote (take i xs) at z (at + i) y
     → Wrote (take (i + 1) xs) at z (at + (i + 1)) (set y (at + i) (get_or xs i 0))
-wrote-next xs at i z y h room w =
+wrote_next xs at i z y h room w =
     let n : length (take i xs) ≡ i = length-take-le i xs (omega arith) in
     let e : take (i + 1) xs ≡ take i xs ++ (get_or xs i 0 ∷ []) = rw add-one (take-suc xs i 0 h) in
     let k : at + (i + 1) ≡ at + i + 1 = omega arith in
     let r : at + length (take i xs ++ (get_or xs i 0 ∷ [])) ≤ length z = omega (arith, length-append (take i xs) (get_or xs i 0 ∷ [])) in
-    rw (e, k) (wrote-both w (get_or xs i 0 ∷ []) r (wrote_one (get_or xs i 0) (at + i) y (omega (arith, room-second w (get_or xs i 0 ∷ []) r))))
+    rw (e, k) (wrote_both w (get_or xs i 0 ∷ []) r (wrote_one (get_or xs i 0) (at + i) y (omega (arith, room_second w (get_or xs i 0 ∷ []) r))))

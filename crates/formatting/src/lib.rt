@@ -3,13 +3,13 @@
 // Each function writes from a position of the slice on and returns the position after what it
 // wrote; the rest of the slice stays. They require that the slice has room, and are no entries.
 ghost use Rattle.std.specs.Prelude.{◌≡◌, ◌+◌, ◌*◌, ◌<◌, ◌≤◌, length};
-ghost use Rattle.formatting.specs.Characters.{digitOf, decimal, labelled, byteText, bytesText};
+ghost use Rattle.formatting.specs.Characters.{digit_of, decimal, labelled, byte_text, bytes_text};
 ghost use Rattle.formatting.specs.Writing.{Wrote};
 
 // The digit of a number below 16: 0 to 9, A to F.
 pub fn digit(n: usize) -> u8
     requires { n < 16 }
-    ensures { result ≡ digitOf n }
+    ensures { result ≡ digit_of n }
 {
     if n < 10 { 48 + n as u8 } else { 55 + n as u8 }
 }
@@ -49,7 +49,7 @@ pub fn write_labelled(label: &[u8], n: usize, output: &mut [u8], at: usize) -> u
 // Writes a blank and the two hexadecimal digits of a byte.
 pub fn write_byte(byte: u8, output: &mut [u8], at: usize) -> usize
     requires { at + 3 ≤ length output.old }
-    ensures { Wrote (byteText byte) at output.old result output.new }
+    ensures { Wrote (byte_text byte) at output.old result output.new }
 {
     let value = byte as usize;
     output[at] = b' ';
@@ -61,7 +61,7 @@ pub fn write_byte(byte: u8, output: &mut [u8], at: usize) -> usize
 // Writes each byte so.
 pub fn write_bytes(bytes: &[u8], output: &mut [u8], at: usize) -> usize
     requires { at + 3 * length bytes.now ≤ length output.old }
-    ensures { Wrote (bytesText bytes.now) at output.old result output.new }
+    ensures { Wrote (bytes_text bytes.now) at output.old result output.new }
 {
     let mut next = at;
     let mut i = 0;

@@ -1,8 +1,8 @@
 // The hash table of a part of a word list, in slices that are lent, and the look-up of a word in it.
 ghost use Rattle.std.specs.Prelude.{◌≡◌, true, ℕ, ◌-◌, ◌≤◌, ◌<◌, length, drop, get_or};
-ghost use Rattle.lexicon.specs.Letters.{isTable};
-ghost use Rattle.scanning.specs.Scans.{run_at, wordsAt, WordBegins, bucketOf};
-ghost use Rattle.hashing.specs.HashTables.{maxPart, spelledAt, indexIn, indexFrom, Room, Starts, Buckets, Links, Chains, HashTable};
+ghost use Rattle.lexicon.specs.Letters.{is_table};
+ghost use Rattle.scanning.specs.Scans.{run_at, words_at, WordBegins, bucket_of};
+ghost use Rattle.hashing.specs.HashTables.{max_part, spelled_at, index_in, index_from, Room, Starts, Buckets, Links, Chains, HashTable};
 
 // The most words of a part of a list that is put into a hash table.
 pub const MAX_PART: usize = 100000;
@@ -28,8 +28,8 @@ fn note_starts(
     buckets: &mut [u32],
     starts: &mut [usize],
 ) -> usize
-    requires { (isTable table.now ≡ true) × WordBegins table.now list.now from × (count ≤ maxPart) × (count ≤ length (wordsAt table.now list.now from)) × (length buckets.old ≡ maxPart) × (length starts.old ≡ maxPart) }
-    ensures { Starts table.now list.now from count starts.new × Buckets table.now list.now from count buckets.new × WordBegins table.now list.now result × (wordsAt table.now list.now result ≡ drop count (wordsAt table.now list.now from)) }
+    requires { (is_table table.now ≡ true) × WordBegins table.now list.now from × (count ≤ max_part) × (count ≤ length (words_at table.now list.now from)) × (length buckets.old ≡ max_part) × (length starts.old ≡ max_part) }
+    ensures { Starts table.now list.now from count starts.new × Buckets table.now list.now from count buckets.new × WordBegins table.now list.now result × (words_at table.now list.now result ≡ drop count (words_at table.now list.now from)) }
 {
     let mut at = from;
     let mut word: usize = 0;
@@ -48,7 +48,7 @@ fn note_starts(
 // Puts so many words of a list into an empty hash table: the last one first, so that a bucket has its
 // words in their order. The link of a word takes the place where its bucket is noted.
 fn chain(table: &[u8], list: &[u8], from: usize, count: usize, heads: &mut [u32], links: &mut [u32])
-    requires { (count ≤ maxPart) × Buckets table.now list.now from count links.old × Chains table.now list.now from count count heads.old links.old }
+    requires { (count ≤ max_part) × Buckets table.now list.now from count links.old × Chains table.now list.now from count count heads.old links.old }
     ensures { Chains table.now list.now from count 0 heads.new links.new }
 {
     let mut word = count;
@@ -71,8 +71,8 @@ pub fn hash_part(
     links: &mut [u32],
     starts: &mut [usize],
 ) -> usize
-    requires { (isTable table.now ≡ true) × WordBegins table.now list.now from × (count ≤ maxPart) × (count ≤ length (wordsAt table.now list.now from)) × Room heads.old links.old starts.old }
-    ensures { HashTable table.now list.now from count heads.new links.new starts.new × WordBegins table.now list.now result × (wordsAt table.now list.now result ≡ drop count (wordsAt table.now list.now from)) }
+    requires { (is_table table.now ≡ true) × WordBegins table.now list.now from × (count ≤ max_part) × (count ≤ length (words_at table.now list.now from)) × Room heads.old links.old starts.old }
+    ensures { HashTable table.now list.now from count heads.new links.new starts.new × WordBegins table.now list.now result × (words_at table.now list.now result ≡ drop count (words_at table.now list.now from)) }
 {
     clear_buckets(heads);
     let behind = note_starts(table, list, from, count, links, starts);
@@ -93,8 +93,8 @@ pub fn find_from(
     at: usize,
     first: usize,
 ) -> usize
-    requires { (isTable table.now ≡ true) × (count ≤ maxPart) × Starts table.now list.now from count starts.now × Links table.now list.now from count 0 links.now × (at ≤ length text.now) × (first ≤ count) × (0 < first → bucketOf (spelledAt table.now list.now from (first - 1)) ≡ bucketOf (run_at table.now text.now at)) }
-    ensures { result ≡ indexFrom table.now list.now from count (run_at table.now text.now at) first }
+    requires { (is_table table.now ≡ true) × (count ≤ max_part) × Starts table.now list.now from count starts.now × Links table.now list.now from count 0 links.now × (at ≤ length text.now) × (first ≤ count) × (0 < first → bucket_of (spelled_at table.now list.now from (first - 1)) ≡ bucket_of (run_at table.now text.now at)) }
+    ensures { result ≡ index_from table.now list.now from count (run_at table.now text.now at) first }
 {
     let mut word = first;
     while 0 < word {
@@ -120,8 +120,8 @@ pub fn find(
     at: usize,
     bucket: usize,
 ) -> usize
-    requires { (isTable table.now ≡ true) × HashTable table.now list.now from count heads.now links.now starts.now × (at ≤ length text.now) × (bucket ≡ bucketOf (run_at table.now text.now at)) }
-    ensures { result ≡ indexIn table.now list.now from count (run_at table.now text.now at) }
+    requires { (is_table table.now ≡ true) × HashTable table.now list.now from count heads.now links.now starts.now × (at ≤ length text.now) × (bucket ≡ bucket_of (run_at table.now text.now at)) }
+    ensures { result ≡ index_in table.now list.now from count (run_at table.now text.now at) }
 {
     let word = heads[bucket] as usize;
     find_from(table, list, from, count, links, starts, text, at, word)

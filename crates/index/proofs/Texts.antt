@@ -5,37 +5,37 @@ use mathlib.Core.Bool.{true, ◌&&◌}
 use mathlib.Core.List.{List}
 use native.Mathlib.Omega.{arith}
 use lib.ListN.{length}
-use Rattle.base.specs.Lists.{Below, rangeFrom, same, total}
-use Rattle.base.specs.Texts.{isText}
-use Rattle.base.proofs.Tests.{and_left, and_right, and-true}
-use Rattle.base.proofs.Lists.{same-yes, same_true, map-map}
-use Rattle.base.proofs.Ranges.{length-map-range}
-use Rattle.base.proofs.Segments.{length-flatten, segments-flatten}
-use Rattle.base.proofs.Texts.{text-length, text-below, is-text}
-use Rattle.dense.specs.Code.{Closing, maxVocabulary}
+use Rattle.base.specs.Lists.{Below, range_from, same, total}
+use Rattle.base.specs.Texts.{is_text}
+use Rattle.base.proofs.Tests.{and_left, and_right, and_true}
+use Rattle.base.proofs.Lists.{same_yes, same_true, map_map}
+use Rattle.base.proofs.Ranges.{length_map_range}
+use Rattle.base.proofs.Segments.{length_flatten, segments_flatten}
+use Rattle.base.proofs.Texts.{text_length_lem, text_below, is_text_lem}
+use Rattle.dense.specs.Code.{Closing, max_vocabulary}
 use Rattle.dense.specs.Streams.{stream}
-use Rattle.dense.proofs.Streams.{stream-length, stream-most}
-use Rattle.directory.specs.Counters.{superblockRows, blockRows, maxBytes}
-use Rattle.directory.proofs.Rows.{superblock-rows-length, block-rows-length}
-use Rattle.tree.specs.Nodes.{nodeCount, nodeBytes, nodes}
+use Rattle.dense.proofs.Streams.{stream_length_lem, stream_most}
+use Rattle.directory.specs.Counters.{superblock_rows, block_rows, max_bytes}
+use Rattle.directory.proofs.Rows.{superblock_rows_length, block_rows_length}
+use Rattle.tree.specs.Nodes.{node_count, node_bytes, nodes}
 use Rattle.tree.specs.Walks.{text_of}
-use Rattle.tree.proofs.Reading.{text-of-nodes}
-use Rattle.tree.proofs.Visits.{total-nodes}
+use Rattle.tree.proofs.Reading.{text_of_nodes}
+use Rattle.tree.proofs.Visits.{total_nodes}
 use Rattle.index.specs.declared.Shape.{Shape}
-use Rattle.index.specs.Arrays.{Arrays, bytes_of, lengthsOf, index_of, nodesIn, textIn, sameArrays}
+use Rattle.index.specs.Arrays.{Arrays, bytes_of, lengths_of, index_of, nodes_in, text_in, same_arrays}
 use Rattle.index.specs.Exact.{WithinLimits, IsText}
 
 -- the test of a text, as a fact
-pub tested-text : (vocab : ℕ) (t : List ℕ) → isText vocab t ≡ true → IsText vocab t
-tested-text vocab t e = record { short = text-length vocab t e; ranks = text-below vocab t e }
+pub tested_text : (vocab : ℕ) (t : List ℕ) → is_text vocab t ≡ true → IsText vocab t
+tested_text vocab t e = record { short = text_length_lem vocab t e; ranks = text_below vocab t e }
 
-pub text-tested : (vocab : ℕ) (t : List ℕ) → IsText vocab t → isText vocab t ≡ true
-text-tested vocab t w = is-text vocab t w.short w.ranks
+pub text_tested : (vocab : ℕ) (t : List ℕ) → IsText vocab t → is_text vocab t ≡ true
+text_tested vocab t w = is_text_lem vocab t w.short w.ranks
 
 -- the test of two times four slices holds exactly if they are equal
-pub arrays-same : (a e : Arrays) → sameArrays a e ≡ true → a ≡ e
-unfolding sameArrays
-arrays-same a e h =
+pub arrays_same : (a e : Arrays) → same_arrays a e ≡ true → a ≡ e
+unfolding same_arrays
+arrays_same a e h =
     let three : same a.lengths e.lengths && same a.bytes e.bytes && same a.superblocks e.superblocks ≡ true =
     and_left (same a.lengths e.lengths && same a.bytes e.bytes && same a.superblocks e.superblocks) (same a.blocks e.blocks) h in
     let two : same a.lengths e.lengths && same a.bytes e.bytes ≡ true =
@@ -48,70 +48,70 @@ arrays-same a e h =
     same_true a.blocks e.blocks (and_right (same a.lengths e.lengths && same a.bytes e.bytes && same a.superblocks e.superblocks) (same a.blocks e.blocks) h) in
     λ i. record { lengths = l i; bytes = y i; superblocks = u i; blocks = k i }
 
-pub same-arrays : (a e : Arrays) → a ≡ e → sameArrays a e ≡ true
-unfolding sameArrays
-same-arrays a e q =
-    and-true _ _
-    (and-true _ _
-    (and-true _ _ (same-yes a.lengths e.lengths (ap (λ (x : Arrays). x.lengths) q)) (same-yes a.bytes e.bytes (ap (λ (x : Arrays). x.bytes) q)))
-    (same-yes a.superblocks e.superblocks (ap (λ (x : Arrays). x.superblocks) q)))
-    (same-yes a.blocks e.blocks (ap (λ (x : Arrays). x.blocks) q))
+pub same_arrays_lem : (a e : Arrays) → a ≡ e → same_arrays a e ≡ true
+unfolding same_arrays
+same_arrays_lem a e q =
+    and_true _ _
+    (and_true _ _
+    (and_true _ _ (same_yes a.lengths e.lengths (ap (λ (x : Arrays). x.lengths) q)) (same_yes a.bytes e.bytes (ap (λ (x : Arrays). x.bytes) q)))
+    (same_yes a.superblocks e.superblocks (ap (λ (x : Arrays). x.superblocks) q)))
+    (same_yes a.blocks e.blocks (ap (λ (x : Arrays). x.blocks) q))
 
 -- the nodes of the index of a text are those of the text
-pub nodes-of-index : (s : ℕ) (shape : Shape) (t : List ℕ) → nodesIn (index_of s shape t) ≡ nodes s shape.vocabulary t
-unfolding index_of lengthsOf bytes_of
-nodes-of-index s shape t = segments-flatten (nodes s shape.vocabulary t)
+pub nodes_of_index : (s : ℕ) (shape : Shape) (t : List ℕ) → nodes_in (index_of s shape t) ≡ nodes s shape.vocabulary t
+unfolding index_of lengths_of bytes_of
+nodes_of_index s shape t = segments_flatten (nodes s shape.vocabulary t)
 
-module _ (s : ℕ) (within : Closing s) (shape : Shape) (fits : shape.vocabulary ≤ maxVocabulary s) (t : List ℕ) (below : Below shape.vocabulary t) where
+module _ (s : ℕ) (within : Closing s) (shape : Shape) (fits : shape.vocabulary ≤ max_vocabulary s) (t : List ℕ) (below : Below shape.vocabulary t) where
   -- it is read as the text
-  pub text-of-index : textIn s (index_of s shape t) ≡ t
-  unfolding textIn
-  text-of-index = ap (text_of s) (nodes-of-index s shape t) ∙ text-of-nodes s within shape.vocabulary fits t below
+  pub text_of_index : text_in s (index_of s shape t) ≡ t
+  unfolding text_in
+  text_of_index = ap (text_of s) (nodes_of_index s shape t) ∙ text_of_nodes s within shape.vocabulary fits t below
 
   -- it has as many bytes as the stream of the text
-  pub total-lengths : total (index_of s shape t).lengths ≡ length (stream s t)
-  unfolding index_of lengthsOf
-  total-lengths = total-nodes s within shape.vocabulary t fits below ∙ sym (stream-length s t)
+  pub total_lengths : total (index_of s shape t).lengths ≡ length (stream s t)
+  unfolding index_of lengths_of
+  total_lengths = total_nodes s within shape.vocabulary t fits below ∙ sym (stream_length_lem s t)
 
-  pub length-bytes : length (index_of s shape t).bytes ≡ length (stream s t)
-  unfolding index_of bytes_of lengthsOf
-  length-bytes = length-flatten (nodes s shape.vocabulary t) ∙ total-lengths
+  pub length_bytes : length (index_of s shape t).bytes ≡ length (stream s t)
+  unfolding index_of bytes_of lengths_of
+  length_bytes = length_flatten (nodes s shape.vocabulary t) ∙ total_lengths
 
 -- ---- what the index of a text has of each
 
 module _ (s : ℕ) (shape : Shape) (t : List ℕ) where
   -- the rows are those of its bytes
-  pub index-superblocks : superblockRows shape.block shape.per_superblock (index_of s shape t).bytes ≡ (index_of s shape t).superblocks
+  pub index_superblocks : superblock_rows shape.block shape.per_superblock (index_of s shape t).bytes ≡ (index_of s shape t).superblocks
   unfolding index_of
-  index-superblocks = refl
+  index_superblocks = refl
 
-  pub index-blocks : blockRows shape.block shape.per_superblock (index_of s shape t).bytes ≡ (index_of s shape t).blocks
+  pub index_blocks : block_rows shape.block shape.per_superblock (index_of s shape t).bytes ≡ (index_of s shape t).blocks
   unfolding index_of
-  index-blocks = refl
+  index_blocks = refl
 
   -- there is a length for each node
-  pub count-lengths : length (index_of s shape t).lengths ≡ nodeCount s shape.vocabulary
-  unfolding index_of lengthsOf nodes
-  count-lengths =
-      ap length (map-map length (λ (k : ℕ). nodeBytes s k t) (rangeFrom 0 (nodeCount s shape.vocabulary)))
-      ∙ length-map-range _ 0 (nodeCount s shape.vocabulary)
+  pub count_lengths : length (index_of s shape t).lengths ≡ node_count s shape.vocabulary
+  unfolding index_of lengths_of nodes
+  count_lengths =
+      ap length (map_map length (λ (k : ℕ). node_bytes s k t) (range_from 0 (node_count s shape.vocabulary)))
+      ∙ length_map_range _ 0 (node_count s shape.vocabulary)
 
   module _ (within : Closing s) (limits : WithinLimits s shape) (text : IsText shape.vocabulary t) where
     -- there is a byte for each byte of the stream
-    pub count-bytes : length (index_of s shape t).bytes ≡ length (stream s t)
-    count-bytes = length-bytes s within shape limits.mostWords t text.ranks
+    pub count_bytes : length (index_of s shape t).bytes ≡ length (stream s t)
+    count_bytes = length_bytes s within shape limits.most_words t text.ranks
 
     -- of which there are at most three a word
-    pub stream-short : length (stream s t) ≤ maxBytes
-    stream-short = omega (arith, stream-most s t, text.short)
+    pub stream_short : length (stream s t) ≤ max_bytes
+    stream_short = omega (arith, stream_most s t, text.short)
 
     -- and the rows of so many bytes
-    pub count-superblocks : length (index_of s shape t).superblocks ≡ suc (length (stream s t) / (shape.block * shape.per_superblock)) * 256
-    count-superblocks =
-        ap length (sym index-superblocks) ∙ superblock-rows-length shape.block shape.per_superblock (index_of s shape t).bytes
-        ∙ ap (λ (l : ℕ). suc (l / (shape.block * shape.per_superblock)) * 256) count-bytes
+    pub count_superblocks : length (index_of s shape t).superblocks ≡ suc (length (stream s t) / (shape.block * shape.per_superblock)) * 256
+    count_superblocks =
+        ap length (sym index_superblocks) ∙ superblock_rows_length shape.block shape.per_superblock (index_of s shape t).bytes
+        ∙ ap (λ (l : ℕ). suc (l / (shape.block * shape.per_superblock)) * 256) count_bytes
 
-    pub count-blocks : length (index_of s shape t).blocks ≡ suc (length (stream s t) / shape.block) * 256
-    count-blocks =
-        ap length (sym index-blocks) ∙ block-rows-length shape.block shape.per_superblock (index_of s shape t).bytes
-        ∙ ap (λ (l : ℕ). suc (l / shape.block) * 256) count-bytes
+    pub count_blocks : length (index_of s shape t).blocks ≡ suc (length (stream s t) / shape.block) * 256
+    count_blocks =
+        ap length (sym index_blocks) ∙ block_rows_length shape.block shape.per_superblock (index_of s shape t).bytes
+        ∙ ap (λ (l : ℕ). suc (l / shape.block) * 256) count_bytes

@@ -2,8 +2,8 @@
 use Rattle.std.specs.Prelude.{ℕ, Bool, ◌&&◌, length}
 use mathlib.Core.List.{List, map, flatten}
 use Rattle.base.specs.Lists.{same, segments}
-use Rattle.base.specs.Texts.{isText}
-use Rattle.directory.specs.Counters.{superblockRows, blockRows}
+use Rattle.base.specs.Texts.{is_text}
+use Rattle.directory.specs.Counters.{superblock_rows, block_rows}
 use Rattle.tree.specs.Nodes.{nodes}
 use Rattle.tree.specs.Walks.{text_of}
 use Rattle.index.specs.declared.Shape.{Shape}
@@ -28,32 +28,32 @@ unfoldable pub bytes_of : ℕ → ℕ → List ℕ → List ℕ
 bytes_of s vocab t = flatten (nodes s vocab t)
 
 -- the length of each node
-unfoldable pub lengthsOf : ℕ → ℕ → List ℕ → List ℕ
-lengthsOf s vocab t = map length (nodes s vocab t)
+unfoldable pub lengths_of : ℕ → ℕ → List ℕ → List ℕ
+lengths_of s vocab t = map length (nodes s vocab t)
 
 -- the index of a text: its node lengths, its node bytes, and one directory that covers all bytes
 unfoldable pub index_of : ℕ → Shape → List ℕ → Arrays
 index_of s shape t =
     arrays
-    (lengthsOf s shape.vocabulary t)
+    (lengths_of s shape.vocabulary t)
     (bytes_of s shape.vocabulary t)
-    (superblockRows shape.block shape.per_superblock (bytes_of s shape.vocabulary t))
-    (blockRows shape.block shape.per_superblock (bytes_of s shape.vocabulary t))
+    (superblock_rows shape.block shape.per_superblock (bytes_of s shape.vocabulary t))
+    (block_rows shape.block shape.per_superblock (bytes_of s shape.vocabulary t))
 
 -- the nodes of the arrays: each begins in the bytes where those before it end
-abbrev pub nodesIn : Arrays → List (List ℕ)
-nodesIn a = segments a.lengths a.bytes
+abbrev pub nodes_in : Arrays → List (List ℕ)
+nodes_in a = segments a.lengths a.bytes
 
 -- the text of the arrays: what the walk reads from their nodes
-unfoldable pub textIn : ℕ → Arrays → List ℕ
-textIn s a = text_of s (nodesIn a)
+unfoldable pub text_in : ℕ → Arrays → List ℕ
+text_in s a = text_of s (nodes_in a)
 
 -- whether two times four slices are the same
-unfoldable pub sameArrays : Arrays → Arrays → Bool
-sameArrays a e =
+unfoldable pub same_arrays : Arrays → Arrays → Bool
+same_arrays a e =
     same a.lengths e.lengths && same a.bytes e.bytes
     && same a.superblocks e.superblocks && same a.blocks e.blocks
 
 -- whether the check passes: what is read from the arrays is a text of the vocabulary, and the arrays are its index
 unfoldable pub passes : ℕ → Shape → Arrays → Bool
-passes s shape a = isText shape.vocabulary (textIn s a) && sameArrays (index_of s shape (textIn s a)) a
+passes s shape a = is_text shape.vocabulary (text_in s a) && same_arrays (index_of s shape (text_in s a)) a

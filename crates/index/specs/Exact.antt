@@ -3,24 +3,24 @@
 use Rattle.std.specs.Prelude.{ℕ, ◌*◌, ◌≤◌, ◌≡◌, ◌↔◌, false, List, length}
 use Rattle.base.specs.Lists.{Below, total}
 use Rattle.base.specs.Answers.{accepted, front}
-use Rattle.base.specs.Texts.{maxWords, maxSuperblock}
-use Rattle.dense.specs.Code.{Closing, maxVocabulary}
+use Rattle.base.specs.Texts.{max_words, max_superblock}
+use Rattle.dense.specs.Code.{Closing, max_vocabulary}
 use Rattle.dense.specs.Streams.{stream}
 use Rattle.index.specs.declared.Shape.{Shape}
-use Rattle.index.specs.Arrays.{Arrays, arrays, index_of, textIn}
-use Rattle.index.specs.Entries.{isShorter, buildAnswer, buildExit, checkAnswer}
+use Rattle.index.specs.Arrays.{Arrays, arrays, index_of, text_in}
+use Rattle.index.specs.Entries.{is_shorter, build_answer, build_exit, check_answer}
 
 -- V, B and b are within their limits
 pub record WithinLimits (s : ℕ) (shape : Shape) : Type 0 where
-  pub someWord : 1 ≤ shape.vocabulary
-  pub mostWords : shape.vocabulary ≤ maxVocabulary s
-  pub someByte : 1 ≤ shape.block
-  pub someBlock : 1 ≤ shape.per_superblock
-  pub mostBytes : shape.block * shape.per_superblock ≤ maxSuperblock
+  pub some_word : 1 ≤ shape.vocabulary
+  pub most_words : shape.vocabulary ≤ max_vocabulary s
+  pub some_byte : 1 ≤ shape.block
+  pub some_block : 1 ≤ shape.per_superblock
+  pub most_bytes : shape.block * shape.per_superblock ≤ max_superblock
 
 -- t is a text of the vocabulary
 pub record IsText (vocab : ℕ) (t : List ℕ) : Type 0 where
-  pub short : length t ≤ maxWords
+  pub short : length t ≤ max_words
   pub ranks : Below vocab t
 
 -- t is a text of the vocabulary, and the arrays are its index
@@ -32,9 +32,9 @@ pub record IndexExact (s : ℕ) (shape : Shape) : Type 0 where
   -- the call that builds accepts a text and slices that are long enough, within the limits; it returns L, which is the length of the
   -- text's stream, and leaves in front of each slice the array of the text's index, and past it what the slice held
   pub built :
-      (t : List ℕ) (z : Arrays) → WithinLimits s shape → IsText shape.vocabulary t → isShorter z (index_of s shape t) ≡ false →
-      (buildAnswer s shape t z ≡ accepted (length (stream s t)))
-      × (buildExit s shape t z
+      (t : List ℕ) (z : Arrays) → WithinLimits s shape → IsText shape.vocabulary t → is_shorter z (index_of s shape t) ≡ false →
+      (build_answer s shape t z ≡ accepted (length (stream s t)))
+      × (build_exit s shape t z
       ≡ arrays
       (front (index_of s shape t).lengths z.lengths)
       (front (index_of s shape t).bytes z.bytes)
@@ -45,13 +45,13 @@ pub record IndexExact (s : ℕ) (shape : Shape) : Type 0 where
       (t : List ℕ) → WithinLimits s shape → IsText shape.vocabulary t →
       (total (index_of s shape t).lengths ≡ length (stream s t)) × (length (index_of s shape t).bytes ≡ length (stream s t))
   -- reading the index of a text gives the text back
-  pub readBack : (t : List ℕ) (a : Arrays) → WithinLimits s shape → HasIndex s shape t a → textIn s a ≡ t
+  pub read_back : (t : List ℕ) (a : Arrays) → WithinLimits s shape → HasIndex s shape t a → text_in s a ≡ t
   -- the check accepts arrays exactly if V, B and b are within their limits and some text has the arrays as its index
-  pub passed : (a : Arrays) → (checkAnswer s shape a ≡ accepted 0) ↔ (WithinLimits s shape × ((t : List ℕ) × HasIndex s shape t a))
+  pub passed : (a : Arrays) → (check_answer s shape a ≡ accepted 0) ↔ (WithinLimits s shape × ((t : List ℕ) × HasIndex s shape t a))
   -- the text that is read from arrays that pass has them as its index, so that building it again gives the arrays
-  pub rebuilt : (a : Arrays) → checkAnswer s shape a ≡ accepted 0 → HasIndex s shape (textIn s a) a
+  pub rebuilt : (a : Arrays) → check_answer s shape a ≡ accepted 0 → HasIndex s shape (text_in s a) a
   -- two texts with the same V never share an index, whatever their B and b
-  pub onlyOne :
+  pub only_one :
       (other : Shape) → other.vocabulary ≡ shape.vocabulary → (t u : List ℕ) (a : Arrays) → WithinLimits s shape →
       HasIndex s shape t a → HasIndex s other u a → t ≡ u
 

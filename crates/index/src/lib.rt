@@ -3,7 +3,7 @@
 // `building` and `checking` have the calls.
 ghost use Rattle.std.specs.Prelude.{◌≡◌};
 ghost use Rattle.dense.specs.Code.{Closing};
-ghost use Rattle.index.specs.Entries.{limitsRefusal};
+ghost use Rattle.index.specs.Entries.{limits_refusal};
 
 use base::refusal;
 
@@ -19,7 +19,7 @@ pub struct Shape {
 // The number of the refusal that V, B or b outside their limits brings; 0 where they are within.
 pub fn limits_refusal(s: usize, shape: Shape) -> u32
     requires { Closing s }
-    ensures { result ≡ limitsRefusal s shape }
+    ensures { result ≡ limits_refusal s shape }
 {
     if shape.vocabulary < 1 {
         return refusal::VOCABULARY;

@@ -1,7 +1,7 @@
 // The calls that are lent a letter table: the entries `read_text_with`, `find_word_with` and
 // `make_list_with`, and the theorem about them and about the check of a table.
 ghost use Rattle.std.specs.Prelude.{◌≡◌};
-ghost use Rattle.lent_tables.specs.Calls.{readTextWithAnswer, readTextWithExit, findWordWithAnswer, listMadeWith, makeListWithExit, makeRanksWithExit};
+ghost use Rattle.lent_tables.specs.Calls.{read_text_with_answer, read_text_with_exit, find_word_with_answer, list_made_with, make_list_with_exit, make_ranks_with_exit};
 
 use base::{Answer, refusal};
 use list_calls::ListMade;
@@ -11,7 +11,7 @@ use list_calls::ListMade;
 // byte offset of the first word that is not in the list, all by the lent table, leave the slice as it
 // was.
 pub fn read_text_with(table: &[u8], list: &[u8], text: &[u8], ranks: &mut [u32]) -> Answer
-    ensures { (result ≡ readTextWithAnswer table.now list.now text.now ranks.old) × (ranks.new ≡ readTextWithExit table.now list.now text.now ranks.old) }
+    ensures { (result ≡ read_text_with_answer table.now list.now text.now ranks.old) × (ranks.new ≡ read_text_with_exit table.now list.now text.now ranks.old) }
 {
     if !lexicon::is_table(table) {
         return Answer::refused(refusal::TABLE);
@@ -23,7 +23,7 @@ pub fn read_text_with(table: &[u8], list: &[u8], text: &[u8], ranks: &mut [u32])
 // of the list's words where the list lacks it, as it lacks an empty spelling and one with a
 // separator. Refusals 18, then 1 and 13, by the lent table.
 pub fn find_word_with(table: &[u8], list: &[u8], spelling: &[u8]) -> Answer
-    ensures { result ≡ findWordWithAnswer table.now list.now spelling.now }
+    ensures { result ≡ find_word_with_answer table.now list.now spelling.now }
 {
     if lexicon::is_table(table) {
         return finding::find_word_by(table, list, spelling);
@@ -35,7 +35,7 @@ pub fn find_word_with(table: &[u8], list: &[u8], spelling: &[u8]) -> Answer
 // of one slice, and the rank of each word of the text to the front of the other. It gives how many
 // elements of each it has written. Refusals 18, then 2, 17 and 5, leave both slices as they were.
 pub fn make_list_with(table: &[u8], text: &[u8], list: &mut [u8], ranks: &mut [u32]) -> ListMade
-    ensures { (result ≡ listMadeWith table.now text.now list.old ranks.old) × (list.new ≡ makeListWithExit table.now text.now list.old ranks.old) × (ranks.new ≡ makeRanksWithExit table.now text.now list.old ranks.old) }
+    ensures { (result ≡ list_made_with table.now text.now list.old ranks.old) × (list.new ≡ make_list_with_exit table.now text.now list.old ranks.old) × (ranks.new ≡ make_ranks_with_exit table.now text.now list.old ranks.old) }
 {
     if !lexicon::is_table(table) {
         return list_writing::without_list(Answer::refused(refusal::TABLE));

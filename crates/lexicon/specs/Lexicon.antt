@@ -1,47 +1,47 @@
 -- The word list: its words in rank order, each closed by 0A; over any letter table.
 use Rattle.std.specs.Prelude.{ℕ, Bool, true, not, ◌&&◌, List, [], ◌∷◌, map, eqb, ltb, length}
-use Rattle.base.specs.Lists.{allPass, filterBy, firstWhere, count_of, same, cutAfter}
-use Rattle.lexicon.specs.Letters.{keeps, lineFeed}
+use Rattle.base.specs.Lists.{all_pass, filter_by, first_where, count_of, same, cut_after}
+use Rattle.lexicon.specs.Letters.{keeps, line_feed}
 
 -- V of a list: its number of 0A bytes
-unfoldable pub listSize : List ℕ → ℕ
-listSize list = count_of lineFeed list
+unfoldable pub list_size : List ℕ → ℕ
+list_size list = count_of line_feed list
 
 -- the words of a list without their 0A, the last one also where it is not closed
-unfoldable pub listWords : List ℕ → List (List ℕ)
-listWords list = map (filterBy (λ x. not (eqb x lineFeed))) (cutAfter (λ x. eqb x lineFeed) list)
+unfoldable pub list_words : List ℕ → List (List ℕ)
+list_words list = map (filter_by (λ x. not (eqb x line_feed))) (cut_after (λ x. eqb x line_feed) list)
 
 -- whether each word of a list is closed: the list is empty or ends in 0A
-abbrev pub isClosed : List ℕ → Bool
-isClosed [] = true
-isClosed (x ∷ []) = eqb x lineFeed
-isClosed (x ∷ y ∷ ys) = isClosed (y ∷ ys)
+abbrev pub is_closed : List ℕ → Bool
+is_closed [] = true
+is_closed (x ∷ []) = eqb x line_feed
+is_closed (x ∷ y ∷ ys) = is_closed (y ∷ ys)
 
 -- the rank of a word in a list of words, which is where it stands; their number where it is not among them
-unfoldable pub listRank : List (List ℕ) → List ℕ → ℕ
-listRank words w = firstWhere (same w) words
+unfoldable pub list_rank : List (List ℕ) → List ℕ → ℕ
+list_rank words w = first_where (same w) words
 
 -- whether a word is in a list of words
-unfoldable pub isIn : List (List ℕ) → List ℕ → Bool
-isIn words w = ltb (listRank words w) (length words)
+unfoldable pub is_in : List (List ℕ) → List ℕ → Bool
+is_in words w = ltb (list_rank words w) (length words)
 
 -- whether no word is there twice
 abbrev pub distinct : List (List ℕ) → Bool
 distinct [] = true
-distinct (w ∷ ws) = not (isIn ws w) && distinct ws
+distinct (w ∷ ws) = not (is_in ws w) && distinct ws
 
 -- whether a byte may stand in a word of a list: it is not 00, and the table keeps it
-unfoldable pub isSpelling : List ℕ → ℕ → Bool
-isSpelling table x = not (eqb x 0) && keeps table x
+unfoldable pub is_spelling : List ℕ → ℕ → Bool
+is_spelling table x = not (eqb x 0) && keeps table x
 
 -- whether a word is not empty and made only of bytes other than 00 that the table keeps
-unfoldable pub isSpelled : List ℕ → List ℕ → Bool
-isSpelled table w = ltb 0 (length w) && allPass (isSpelling table) w
+unfoldable pub is_spelled : List ℕ → List ℕ → Bool
+is_spelled table w = ltb 0 (length w) && all_pass (is_spelling table) w
 
 -- whether each word of a list is closed by 0A, not empty, and spelled in kept bytes
 unfoldable pub is_written : List ℕ → List ℕ → Bool
-is_written table list = isClosed list && allPass (isSpelled table) (listWords list)
+is_written table list = is_closed list && all_pass (is_spelled table) (list_words list)
 
 -- whether a word list keeps the rules: its words are written as they must be, and none is there twice
-unfoldable pub isList : List ℕ → List ℕ → Bool
-isList table list = is_written table list && distinct (listWords list)
+unfoldable pub is_list : List ℕ → List ℕ → Bool
+is_list table list = is_written table list && distinct (list_words list)

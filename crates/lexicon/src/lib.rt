@@ -1,8 +1,8 @@
 // What plain text, its letters and its word list are (specs), the letter table over ISO 8859-1, and
 // the check of a table that is lent.
 ghost use Rattle.std.specs.Prelude.{◌≡◌, ◌&&◌, length};
-ghost use Rattle.lexicon.specs.Letters.{letters, isEntry, keepsEntries, hasLetter, isTable};
-ghost use Rattle.lexicon.specs.Tables.{tableAnswer};
+ghost use Rattle.lexicon.specs.Letters.{letters, is_entry, keeps_entries, has_letter, is_table};
+ghost use Rattle.lexicon.specs.Tables.{table_answer};
 
 use base::{Answer, refusal};
 
@@ -31,7 +31,7 @@ pub fn letter_table() -> [u8; 256]
 // Whether an entry is 0 or a byte that a table of 256 entries keeps.
 fn is_entry(table: &[u8], x: u8) -> bool
     requires { length table.now ≡ 256 }
-    ensures { result ≡ isEntry table.now x }
+    ensures { result ≡ is_entry table.now x }
 {
     if x == 0 {
         return true;
@@ -43,7 +43,7 @@ fn is_entry(table: &[u8], x: u8) -> bool
 // not 0: one pass over them.
 fn entries_pass(table: &[u8]) -> bool
     requires { length table.now ≡ 256 }
-    ensures { result ≡ keepsEntries table.now && hasLetter table.now }
+    ensures { result ≡ keeps_entries table.now && has_letter table.now }
 {
     let mut some = false;
     let mut i: usize = 0;
@@ -60,7 +60,7 @@ fn entries_pass(table: &[u8]) -> bool
 
 // Whether a slice of any length is a letter table that keeps the rules.
 pub fn is_table(table: &[u8]) -> bool
-    ensures { result ≡ isTable table.now }
+    ensures { result ≡ is_table table.now }
 {
     if table.len() != 256 {
         return false;
@@ -73,7 +73,7 @@ pub fn is_table(table: &[u8]) -> bool
 
 // Checks a letter table that somebody brings: 0 is answered exactly if it keeps the rules. Refusal 18.
 pub fn check_table(table: &[u8]) -> Answer
-    ensures { result ≡ tableAnswer table.now }
+    ensures { result ≡ table_answer table.now }
 {
     if !is_table(table) {
         return Answer::refused(refusal::TABLE);

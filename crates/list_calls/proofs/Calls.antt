@@ -6,80 +6,80 @@ use mathlib.Core.List.{List, []}
 use borrow.Author.Tests.{lt-ltb, le-ltb}
 use lib.Dec.{ltb}
 use lib.ListN.{length}
-use Rattle.base.proofs.Answers.{first-here, first-later, answers, filled-not, filled-front}
-use Rattle.base.proofs.Tests.{or-false, or_left, or_right}
-use Rattle.base.specs.Answers.{accepted, refused, isAccepted, front}
-use Rattle.base.specs.Refusals.{refusalWords, refusalShortSlice, refusalListMaking}
-use Rattle.base.specs.Texts.{maxWords, wordsCase}
+use Rattle.base.proofs.Answers.{first_here, first_later, answers, filled_not, filled_front}
+use Rattle.base.proofs.Tests.{or_false, or_left, or_right}
+use Rattle.base.specs.Answers.{accepted, refused, is_accepted, front}
+use Rattle.base.specs.Refusals.{refusal_words, refusal_short_slice, refusal_list_making}
+use Rattle.base.specs.Texts.{max_words, words_case}
 use Rattle.base.specs.declared.Answer.{Answer}
-use Rattle.lexicon.specs.Reading.{textWords}
+use Rattle.lexicon.specs.Reading.{text_words}
 use Rattle.list_calls.specs.declared.ListMade.{ListMade}
-use Rattle.list_calls.specs.Making.{maxListText, maxListWords, madeWords, madeList, madeRanks, listMakingCase, listRoomCase, makeListAnswer, listMade, makeListExit, makeRanksExit}
+use Rattle.list_calls.specs.Making.{max_list_text, max_list_words, made_words, made_list, made_ranks, list_making_case, list_room_case, make_list_answer, list_made, make_list_exit, make_ranks_exit}
 
 module _ (table text y z : List ℕ) where
   -- ---- the refusals in their order, and none
 
-  pub too-many-words : maxWords < length (textWords table text) → makeListAnswer table text y z ≡ refused refusalWords
-  unfolding makeListAnswer wordsCase
-  too-many-words h = first-here _ _ _ _ (lt-ltb maxWords (length (textWords table text)) h)
+  pub too_many_words_lem : max_words < length (text_words table text) → make_list_answer table text y z ≡ refused refusal_words
+  unfolding make_list_answer words_case
+  too_many_words_lem h = first_here _ _ _ _ (lt-ltb max_words (length (text_words table text)) h)
 
-  module _ (few : length (textWords table text) ≤ maxWords) where
-    pub too_long : maxListText < length text → makeListAnswer table text y z ≡ refused refusalListMaking
-    unfolding makeListAnswer wordsCase listMakingCase
+  module _ (few : length (text_words table text) ≤ max_words) where
+    pub too_long : max_list_text < length text → make_list_answer table text y z ≡ refused refusal_list_making
+    unfolding make_list_answer words_case list_making_case
     too_long h =
-        first-later _ _ _ _ (le-ltb maxWords (length (textWords table text)) few)
-        ∙ first-here _ _ _ _ (or_left (ltb maxListText (length text)) (ltb maxListWords (length (madeWords table text))) (lt-ltb maxListText (length text) h))
+        first_later _ _ _ _ (le-ltb max_words (length (text_words table text)) few)
+        ∙ first_here _ _ _ _ (or_left (ltb max_list_text (length text)) (ltb max_list_words (length (made_words table text))) (lt-ltb max_list_text (length text) h))
 
-    pub too-many-distinct : maxListWords < length (madeWords table text) → makeListAnswer table text y z ≡ refused refusalListMaking
-    unfolding makeListAnswer wordsCase listMakingCase
-    too-many-distinct h =
-        first-later _ _ _ _ (le-ltb maxWords (length (textWords table text)) few)
-        ∙ first-here _ _ _ _ (or_right (ltb maxListText (length text)) (ltb maxListWords (length (madeWords table text))) (lt-ltb maxListWords (length (madeWords table text)) h))
+    pub too_many_distinct : max_list_words < length (made_words table text) → make_list_answer table text y z ≡ refused refusal_list_making
+    unfolding make_list_answer words_case list_making_case
+    too_many_distinct h =
+        first_later _ _ _ _ (le-ltb max_words (length (text_words table text)) few)
+        ∙ first_here _ _ _ _ (or_right (ltb max_list_text (length text)) (ltb max_list_words (length (made_words table text))) (lt-ltb max_list_words (length (made_words table text)) h))
 
-    module _ (short : length text ≤ maxListText) (listed : length (madeWords table text) ≤ maxListWords) where
-      pub list-too-long : length y < length (madeList table text) → makeListAnswer table text y z ≡ refused refusalShortSlice
-      unfolding makeListAnswer wordsCase listMakingCase listRoomCase
-      list-too-long h =
-          first-later _ _ _ _ (le-ltb maxWords (length (textWords table text)) few)
-          ∙ first-later _ _ _ _ (or-false (ltb maxListText (length text)) (ltb maxListWords (length (madeWords table text))) (le-ltb maxListText (length text) short) (le-ltb maxListWords (length (madeWords table text)) listed))
-          ∙ first-here _ _ _ _ (or_left (ltb (length y) (length (madeList table text))) (ltb (length z) (length (textWords table text))) (lt-ltb (length y) (length (madeList table text)) h))
+    module _ (short : length text ≤ max_list_text) (listed : length (made_words table text) ≤ max_list_words) where
+      pub list_too_long : length y < length (made_list table text) → make_list_answer table text y z ≡ refused refusal_short_slice
+      unfolding make_list_answer words_case list_making_case list_room_case
+      list_too_long h =
+          first_later _ _ _ _ (le-ltb max_words (length (text_words table text)) few)
+          ∙ first_later _ _ _ _ (or_false (ltb max_list_text (length text)) (ltb max_list_words (length (made_words table text))) (le-ltb max_list_text (length text) short) (le-ltb max_list_words (length (made_words table text)) listed))
+          ∙ first_here _ _ _ _ (or_left (ltb (length y) (length (made_list table text))) (ltb (length z) (length (text_words table text))) (lt-ltb (length y) (length (made_list table text)) h))
 
-      pub ranks-too-long : length z < length (textWords table text) → makeListAnswer table text y z ≡ refused refusalShortSlice
-      unfolding makeListAnswer wordsCase listMakingCase listRoomCase
-      ranks-too-long h =
-          first-later _ _ _ _ (le-ltb maxWords (length (textWords table text)) few)
-          ∙ first-later _ _ _ _ (or-false (ltb maxListText (length text)) (ltb maxListWords (length (madeWords table text))) (le-ltb maxListText (length text) short) (le-ltb maxListWords (length (madeWords table text)) listed))
-          ∙ first-here _ _ _ _ (or_right (ltb (length y) (length (madeList table text))) (ltb (length z) (length (textWords table text))) (lt-ltb (length z) (length (textWords table text)) h))
+      pub ranks_too_long : length z < length (text_words table text) → make_list_answer table text y z ≡ refused refusal_short_slice
+      unfolding make_list_answer words_case list_making_case list_room_case
+      ranks_too_long h =
+          first_later _ _ _ _ (le-ltb max_words (length (text_words table text)) few)
+          ∙ first_later _ _ _ _ (or_false (ltb max_list_text (length text)) (ltb max_list_words (length (made_words table text))) (le-ltb max_list_text (length text) short) (le-ltb max_list_words (length (made_words table text)) listed))
+          ∙ first_here _ _ _ _ (or_right (ltb (length y) (length (made_list table text))) (ltb (length z) (length (text_words table text))) (lt-ltb (length z) (length (text_words table text)) h))
 
-      pub makes : length (madeList table text) ≤ length y → length (textWords table text) ≤ length z → makeListAnswer table text y z ≡ accepted 0
-      unfolding makeListAnswer wordsCase listMakingCase listRoomCase
+      pub makes : length (made_list table text) ≤ length y → length (text_words table text) ≤ length z → make_list_answer table text y z ≡ accepted 0
+      unfolding make_list_answer words_case list_making_case list_room_case
       makes l r =
-          first-later _ _ _ _ (le-ltb maxWords (length (textWords table text)) few)
-          ∙ first-later _ _ _ _ (or-false (ltb maxListText (length text)) (ltb maxListWords (length (madeWords table text))) (le-ltb maxListText (length text) short) (le-ltb maxListWords (length (madeWords table text)) listed))
-          ∙ first-later _ _ _ _ (or-false (ltb (length y) (length (madeList table text))) (ltb (length z) (length (textWords table text))) (le-ltb (length y) (length (madeList table text)) l) (le-ltb (length z) (length (textWords table text)) r))
+          first_later _ _ _ _ (le-ltb max_words (length (text_words table text)) few)
+          ∙ first_later _ _ _ _ (or_false (ltb max_list_text (length text)) (ltb max_list_words (length (made_words table text))) (le-ltb max_list_text (length text) short) (le-ltb max_list_words (length (made_words table text)) listed))
+          ∙ first_later _ _ _ _ (or_false (ltb (length y) (length (made_list table text))) (ltb (length z) (length (text_words table text))) (le-ltb (length y) (length (made_list table text)) l) (le-ltb (length z) (length (text_words table text)) r))
           ∙ answers [] _ tt
 
   -- ---- what is returned and left
 
   -- a refused call returns its answer and two zeros, and leaves both slices
-  pub list-refused : (a : Answer) → isAccepted a ≡ false → makeListAnswer table text y z ≡ a → (r : ListMade) → r.answer ≡ a → r.bytes ≡ 0 → r.words ≡ 0
-      → (r ≡ listMade table text y z) × (y ≡ makeListExit table text y z) × (z ≡ makeRanksExit table text y z)
-  unfolding listMade makeListExit makeRanksExit
-  list-refused a n e r p b w =
-      let no : isAccepted (makeListAnswer table text y z) ≡ false = ap isAccepted e ∙ n in
-      let q : r.answer ≡ makeListAnswer table text y z = p ∙ sym e in
-      let s : r.bytes ≡ cond (isAccepted (makeListAnswer table text y z)) (length (madeList table text)) 0 = b ∙ sym (ap (λ (t : Bool). cond t (length (madeList table text)) 0) no) in
-      let m : r.words ≡ cond (isAccepted (makeListAnswer table text y z)) (length (textWords table text)) 0 = w ∙ sym (ap (λ (t : Bool). cond t (length (textWords table text)) 0) no) in
-      (λ i. record { answer = q i; bytes = s i; words = m i }, sym (filled-not (makeListAnswer table text y z) (madeList table text) y no), sym (filled-not (makeListAnswer table text y z) (madeRanks table text) z no))
+  pub list_refused : (a : Answer) → is_accepted a ≡ false → make_list_answer table text y z ≡ a → (r : ListMade) → r.answer ≡ a → r.bytes ≡ 0 → r.words ≡ 0
+      → (r ≡ list_made table text y z) × (y ≡ make_list_exit table text y z) × (z ≡ make_ranks_exit table text y z)
+  unfolding list_made make_list_exit make_ranks_exit
+  list_refused a n e r p b w =
+      let no : is_accepted (make_list_answer table text y z) ≡ false = ap is_accepted e ∙ n in
+      let q : r.answer ≡ make_list_answer table text y z = p ∙ sym e in
+      let s : r.bytes ≡ cond (is_accepted (make_list_answer table text y z)) (length (made_list table text)) 0 = b ∙ sym (ap (λ (t : Bool). cond t (length (made_list table text)) 0) no) in
+      let m : r.words ≡ cond (is_accepted (make_list_answer table text y z)) (length (text_words table text)) 0 = w ∙ sym (ap (λ (t : Bool). cond t (length (text_words table text)) 0) no) in
+      (λ i. record { answer = q i; bytes = s i; words = m i }, sym (filled_not (make_list_answer table text y z) (made_list table text) y no), sym (filled_not (make_list_answer table text y z) (made_ranks table text) z no))
 
   -- an accepted call returns 0 and how much it has written, and has the list and the ranks in front
-  pub list-accepted : makeListAnswer table text y z ≡ accepted 0 → (r : ListMade) (list ranks : List ℕ) → r.answer ≡ accepted 0 → r.bytes ≡ length (madeList table text)
-      → r.words ≡ length (textWords table text) → list ≡ front (madeList table text) y → ranks ≡ front (madeRanks table text) z
-      → (r ≡ listMade table text y z) × (list ≡ makeListExit table text y z) × (ranks ≡ makeRanksExit table text y z)
-  unfolding listMade makeListExit makeRanksExit front
-  list-accepted e r list ranks p b w f g =
-      let yes : isAccepted (makeListAnswer table text y z) ≡ true = ap isAccepted e in
-      let q : r.answer ≡ makeListAnswer table text y z = p ∙ sym e in
-      let s : r.bytes ≡ cond (isAccepted (makeListAnswer table text y z)) (length (madeList table text)) 0 = b ∙ sym (ap (λ (t : Bool). cond t (length (madeList table text)) 0) yes) in
-      let m : r.words ≡ cond (isAccepted (makeListAnswer table text y z)) (length (textWords table text)) 0 = w ∙ sym (ap (λ (t : Bool). cond t (length (textWords table text)) 0) yes) in
-      (λ i. record { answer = q i; bytes = s i; words = m i }, f ∙ sym (filled-front (makeListAnswer table text y z) (madeList table text) y yes), g ∙ sym (filled-front (makeListAnswer table text y z) (madeRanks table text) z yes))
+  pub list_accepted : make_list_answer table text y z ≡ accepted 0 → (r : ListMade) (list ranks : List ℕ) → r.answer ≡ accepted 0 → r.bytes ≡ length (made_list table text)
+      → r.words ≡ length (text_words table text) → list ≡ front (made_list table text) y → ranks ≡ front (made_ranks table text) z
+      → (r ≡ list_made table text y z) × (list ≡ make_list_exit table text y z) × (ranks ≡ make_ranks_exit table text y z)
+  unfolding list_made make_list_exit make_ranks_exit front
+  list_accepted e r list ranks p b w f g =
+      let yes : is_accepted (make_list_answer table text y z) ≡ true = ap is_accepted e in
+      let q : r.answer ≡ make_list_answer table text y z = p ∙ sym e in
+      let s : r.bytes ≡ cond (is_accepted (make_list_answer table text y z)) (length (made_list table text)) 0 = b ∙ sym (ap (λ (t : Bool). cond t (length (made_list table text)) 0) yes) in
+      let m : r.words ≡ cond (is_accepted (make_list_answer table text y z)) (length (text_words table text)) 0 = w ∙ sym (ap (λ (t : Bool). cond t (length (text_words table text)) 0) yes) in
+      (λ i. record { answer = q i; bytes = s i; words = m i }, f ∙ sym (filled_front (make_list_answer table text y z) (made_list table text) y yes), g ∙ sym (filled_front (make_list_answer table text y z) (made_ranks table text) z yes))

@@ -1,16 +1,16 @@
 // Whether a word list keeps the rules: the number of its words, how they are written, and that none is
 // there twice.
 ghost use Rattle.std.specs.Prelude.{◌≡◌, true, ◌≤◌, length, drop};
-ghost use Rattle.lexicon.specs.Letters.{isTable};
-ghost use Rattle.lexicon.specs.Lexicon.{listSize, distinct, is_written};
+ghost use Rattle.lexicon.specs.Letters.{is_table};
+ghost use Rattle.lexicon.specs.Lexicon.{list_size, distinct, is_written};
 ghost use Rattle.lexicon.specs.Reading.{spellings};
-ghost use Rattle.scanning.specs.Scans.{wordsAt, WordBegins};
-ghost use Rattle.hashing.specs.HashTables.{maxPart, Room, Starts, Links, HashTable};
-ghost use Rattle.list_rules.specs.Repeats.{isUnrepeated};
+ghost use Rattle.scanning.specs.Scans.{words_at, WordBegins};
+ghost use Rattle.hashing.specs.HashTables.{max_part, Room, Starts, Links, HashTable};
+ghost use Rattle.list_rules.specs.Repeats.{is_unrepeated};
 
 // The number of words of a list, which is that of its closing bytes.
 pub fn list_size(list: &[u8]) -> usize
-    ensures { result ≡ listSize list.now }
+    ensures { result ≡ list_size list.now }
 {
     let mut words: usize = 0;
     let mut at = 0;
@@ -26,7 +26,7 @@ pub fn list_size(list: &[u8]) -> usize
 // Whether each word of a list is closed, not empty, and spelled in bytes other than 00 that the
 // table keeps.
 pub fn is_written(table: &[u8], list: &[u8]) -> bool
-    requires { isTable table.now ≡ true }
+    requires { is_table table.now ≡ true }
     ensures { result ≡ is_written table.now list.now }
 {
     let mut begun = false;
@@ -61,8 +61,8 @@ fn is_part_distinct(
     links: &[u32],
     starts: &[usize],
 ) -> bool
-    requires { (isTable table.now ≡ true) × (count ≤ maxPart) × Starts table.now list.now from count starts.now × Links table.now list.now from count 0 links.now }
-    ensures { result ≡ isUnrepeated table.now list.now from count count }
+    requires { (is_table table.now ≡ true) × (count ≤ max_part) × Starts table.now list.now from count starts.now × Links table.now list.now from count 0 links.now }
+    ensures { result ≡ is_unrepeated table.now list.now from count count }
 {
     let mut word: usize = 0;
     while word < count {
@@ -90,8 +90,8 @@ fn is_unrepeated(
     behind: usize,
     size: usize,
 ) -> bool
-    requires { (isTable table.now ≡ true) × HashTable table.now list.now from count heads.now links.now starts.now × (isUnrepeated table.now list.now from count count ≡ true) × WordBegins table.now list.now behind × (wordsAt table.now list.now behind ≡ drop count (wordsAt table.now list.now from)) × (count ≤ size) × (size ≤ length (wordsAt table.now list.now from)) }
-    ensures { result ≡ isUnrepeated table.now list.now from count size }
+    requires { (is_table table.now ≡ true) × HashTable table.now list.now from count heads.now links.now starts.now × (is_unrepeated table.now list.now from count count ≡ true) × WordBegins table.now list.now behind × (words_at table.now list.now behind ≡ drop count (words_at table.now list.now from)) × (count ≤ size) × (size ≤ length (words_at table.now list.now from)) }
+    ensures { result ≡ is_unrepeated table.now list.now from count size }
 {
     let mut at = behind;
     let mut word = count;
@@ -123,8 +123,8 @@ fn is_part_unrepeated(
     behind: usize,
     size: usize,
 ) -> bool
-    requires { (isTable table.now ≡ true) × HashTable table.now list.now from count heads.now links.now starts.now × WordBegins table.now list.now behind × (wordsAt table.now list.now behind ≡ drop count (wordsAt table.now list.now from)) × (count ≤ size) × (size ≤ length (wordsAt table.now list.now from)) }
-    ensures { result ≡ isUnrepeated table.now list.now from count size }
+    requires { (is_table table.now ≡ true) × HashTable table.now list.now from count heads.now links.now starts.now × WordBegins table.now list.now behind × (words_at table.now list.now behind ≡ drop count (words_at table.now list.now from)) × (count ≤ size) × (size ≤ length (words_at table.now list.now from)) }
+    ensures { result ≡ is_unrepeated table.now list.now from count size }
 {
     if !is_part_distinct(table, list, from, count, links, starts) {
         return false;
@@ -141,7 +141,7 @@ pub fn is_distinct(
     links: &mut [u32],
     starts: &mut [usize],
 ) -> bool
-    requires { (isTable table.now ≡ true) × (words ≡ length (spellings table.now list.now)) × Room heads.old links.old starts.old }
+    requires { (is_table table.now ≡ true) × (words ≡ length (spellings table.now list.now)) × Room heads.old links.old starts.old }
     ensures { result ≡ distinct (spellings table.now list.now) }
 {
     let mut from = scanning::word_start(table, list, 0);

@@ -1,8 +1,8 @@
 // A word list out of a plain text that is not too long for it, made in tables that are lent: the words
 // are noted, counted, sorted and written.
 ghost use Rattle.std.specs.Prelude.{◌≡◌, true, ◌≤◌, length};
-ghost use Rattle.lexicon.specs.Letters.{isTable};
-ghost use Rattle.list_calls.specs.Making.{maxListText, listMade, makeListExit, makeRanksExit};
+ghost use Rattle.lexicon.specs.Letters.{is_table};
+ghost use Rattle.list_calls.specs.Making.{max_list_text, list_made, make_list_exit, make_ranks_exit};
 ghost use Rattle.list_tables.specs.Tables.{Tables};
 
 use base::{Answer, refusal};
@@ -23,8 +23,8 @@ pub fn make_in_tables(
     list: &mut [u8],
     ranks: &mut [u32],
 ) -> ListMade
-    requires { (isTable table.now ≡ true) × (length text.now ≤ maxListText) × Tables heads.old links.old starts.old firsts.old counts.old }
-    ensures { (result ≡ listMade table.now text.now list.old ranks.old) × (list.new ≡ makeListExit table.now text.now list.old ranks.old) × (ranks.new ≡ makeRanksExit table.now text.now list.old ranks.old) }
+    requires { (is_table table.now ≡ true) × (length text.now ≤ max_list_text) × Tables heads.old links.old starts.old firsts.old counts.old }
+    ensures { (result ≡ list_made table.now text.now list.old ranks.old) × (list.new ≡ make_list_exit table.now text.now list.old ranks.old) × (ranks.new ≡ make_ranks_exit table.now text.now list.old ranks.old) }
 {
     let size = word_places::note_words(table, text, heads, links, starts, firsts);
     let words = word_places::count_places(firsts, size, counts);

@@ -3,9 +3,9 @@
 ghost use Rattle.std.specs.Prelude.{◌≡◌, true, [], ◌∷◌, ◌++◌, map, suc, ◌+◌, ◌≤◌, length, get_or, take};
 ghost use Rattle.base.specs.Answers.{front, written};
 ghost use Rattle.base.specs.Lists.{Below};
-ghost use Rattle.lexicon.specs.Letters.{lineFeed, isTable};
+ghost use Rattle.lexicon.specs.Letters.{line_feed, is_table};
 ghost use Rattle.scanning.specs.Scans.{run_at};
-ghost use Rattle.list_calls.specs.Making.{maxListText, madeWords, madeList, listMade, makeListExit, makeRanksExit};
+ghost use Rattle.list_calls.specs.Making.{max_list_text, made_words, made_list, list_made, make_list_exit, make_ranks_exit};
 ghost use Rattle.list_writing.specs.Noted.{WordsNoted, ListNoted};
 
 use base::{Answer, refusal};
@@ -13,8 +13,8 @@ use list_calls::ListMade;
 
 // The number of bytes of the list of so many words.
 pub fn list_bytes(table: &[u8], text: &[u8], starts: &[usize], order: &[u32], words: usize) -> usize
-    requires { (isTable table.now ≡ true) × WordsNoted table.now text.now starts.now order.now × (words ≡ length (madeWords table.now text.now)) × (length text.now ≤ maxListText) }
-    ensures { result ≡ length (madeList table.now text.now) }
+    requires { (is_table table.now ≡ true) × WordsNoted table.now text.now starts.now order.now × (words ≡ length (made_words table.now text.now)) × (length text.now ≤ max_list_text) }
+    ensures { result ≡ length (made_list table.now text.now) }
 {
     let mut bytes: usize = 0;
     let mut rank: usize = 0;
@@ -32,8 +32,8 @@ pub fn list_bytes(table: &[u8], text: &[u8], starts: &[usize], order: &[u32], wo
 // Writes the word that begins at a position of a text, folded and closed, from a position of a slice
 // on. It gives the position behind it.
 fn write_spelling(table: &[u8], text: &[u8], start: usize, list: &mut [u8], at: usize) -> usize
-    requires { (isTable table.now ≡ true) × (start ≤ length text.now) × (at + suc (length (run_at table.now text.now start)) ≤ length list.old) }
-    ensures { (result ≡ at + suc (length (run_at table.now text.now start))) × (list.new ≡ written (run_at table.now text.now start ++ lineFeed ∷ []) at list.old) }
+    requires { (is_table table.now ≡ true) × (start ≤ length text.now) × (at + suc (length (run_at table.now text.now start)) ≤ length list.old) }
+    ensures { (result ≡ at + suc (length (run_at table.now text.now start))) × (list.new ≡ written (run_at table.now text.now start ++ line_feed ∷ []) at list.old) }
 {
     let mut i: usize = 0;
     let mut letter = scanning::letter_at(table, text, start);
@@ -55,8 +55,8 @@ pub fn write_list(
     words: usize,
     list: &mut [u8],
 )
-    requires { (isTable table.now ≡ true) × WordsNoted table.now text.now starts.now order.now × (words ≡ length (madeWords table.now text.now)) × (length (madeList table.now text.now) ≤ length list.old) }
-    ensures { list.new ≡ front (madeList table.now text.now) list.old }
+    requires { (is_table table.now ≡ true) × WordsNoted table.now text.now starts.now order.now × (words ≡ length (made_words table.now text.now)) × (length (made_list table.now text.now) ≤ length list.old) }
+    ensures { list.new ≡ front (made_list table.now text.now) list.old }
 {
     let mut at: usize = 0;
     let mut rank: usize = 0;
@@ -106,7 +106,7 @@ pub fn write_made(
     ranks: &mut [u32],
 ) -> ListMade
     requires { ListNoted table.now text.now starts.now order.now firsts.now values.now size words }
-    ensures { (result ≡ listMade table.now text.now list.old ranks.old) × (list.new ≡ makeListExit table.now text.now list.old ranks.old) × (ranks.new ≡ makeRanksExit table.now text.now list.old ranks.old) }
+    ensures { (result ≡ list_made table.now text.now list.old ranks.old) × (list.new ≡ make_list_exit table.now text.now list.old ranks.old) × (ranks.new ≡ make_ranks_exit table.now text.now list.old ranks.old) }
 {
     let bytes = list_bytes(table, text, starts, order, words);
     if list.len() < bytes {

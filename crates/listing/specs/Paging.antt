@@ -1,13 +1,13 @@
 -- A page of a listing: all that a call returns and writes.
 use Rattle.std.specs.Prelude.{ℕ, false, cond, ◌&&◌, List, [], ◌∷◌, ◌++◌, eqb, ltb, length}
 use Rattle.base.specs.declared.Answer.{Answer}
-use Rattle.base.specs.Refusals.{refusalPlace, refusalPage}
-use Rattle.base.specs.Answers.{accepted, refused, isAccepted, Case, ◌⇒◌, first_of, filled}
+use Rattle.base.specs.Refusals.{refusal_place, refusal_page}
+use Rattle.base.specs.Answers.{accepted, refused, is_accepted, Case, ◌⇒◌, first_of, filled}
 use Rattle.index.specs.declared.Shape.{Shape}
-use Rattle.index.specs.Arrays.{Arrays, textIn}
-use Rattle.documents.specs.Documents.{standsIn}
-use Rattle.pages.specs.Pages.{HitPage, pageOver}
-use Rattle.questions.specs.Answering.{readingCases, phraseIn, phraseCases}
+use Rattle.index.specs.Arrays.{Arrays, text_in}
+use Rattle.documents.specs.Documents.{stands_in}
+use Rattle.pages.specs.Pages.{HitPage, page_over}
+use Rattle.questions.specs.Answering.{reading_cases, phrase_in, phrase_cases}
 use Rattle.listing.specs.declared.Listing.{Listing}
 use Rattle.listing.specs.declared.Page.{Page}
 
@@ -38,41 +38,41 @@ call_of s shape a documents words start len lines =
     record { closing = s; shape = shape; arrays = a; documents = documents; words = words; start = start; len = len; lines = lines }
 
 -- the text of the slices that a call brings
-abbrev pub callText : Call → List ℕ
-callText call = textIn call.closing call.arrays
+abbrev pub call_text : Call → List ℕ
+call_text call = text_in call.closing call.arrays
 
 -- the phrase that a call brings
-abbrev pub callPhrase : Call → List ℕ
-callPhrase call = phraseIn call.words call.start call.len
+abbrev pub call_phrase : Call → List ℕ
+call_phrase call = phrase_in call.words call.start call.len
 
 -- the page over the state that a call is handed: of the places 0 to n of its text, the hits are those where its phrase stands
 -- inside one document
-unfoldable pub callPage : Call → Listing → HitPage
-callPage call state =
-    pageOver (standsIn call.documents (callText call) (callPhrase call)) (length (callText call)) (length call.lines) state.next state.finished
+unfoldable pub call_page : Call → Listing → HitPage
+call_page call state =
+    page_over (stands_in call.documents (call_text call) (call_phrase call)) (length (call_text call)) (length call.lines) state.next state.finished
 
 -- the refusals of a page call after those of the index and of the starts, in the order tried: of the phrase, a next place above n, a page
 -- of length 0
-unfoldable pub requestCases : ℕ → List ℕ → ℕ → ℕ → ℕ → ℕ → ℕ → List Case
-requestCases vocab words start len n next room =
-    phraseCases vocab words start len
-    ++ (ltb n next ⇒ refused refusalPlace)
-    ∷ (eqb room 0 ⇒ refused refusalPage)
+unfoldable pub request_cases : ℕ → List ℕ → ℕ → ℕ → ℕ → ℕ → ℕ → List Case
+request_cases vocab words start len n next room =
+    phrase_cases vocab words start len
+    ++ (ltb n next ⇒ refused refusal_place)
+    ∷ (eqb room 0 ⇒ refused refusal_page)
     ∷ []
 
 -- the answer of these tests: the first refusal, and 0 accepted where there is none
-unfoldable pub requestAnswer : ℕ → List ℕ → ℕ → ℕ → ℕ → ℕ → ℕ → Answer
-requestAnswer vocab words start len n next room = first_of (requestCases vocab words start len n next room) (accepted 0)
+unfoldable pub request_answer : ℕ → List ℕ → ℕ → ℕ → ℕ → ℕ → ℕ → Answer
+request_answer vocab words start len n next room = first_of (request_cases vocab words start len n next room) (accepted 0)
 
 -- the refusals of a page call, in the order tried: of the index, then of the starts, then of what it asks for
-unfoldable pub pageCases : Call → Listing → List Case
-pageCases call state =
-    readingCases call.closing call.shape call.arrays call.documents
-    ++ requestCases call.shape.vocabulary call.words call.start call.len (length (callText call)) state.next (length call.lines)
+unfoldable pub page_cases : Call → Listing → List Case
+page_cases call state =
+    reading_cases call.closing call.shape call.arrays call.documents
+    ++ request_cases call.shape.vocabulary call.words call.start call.len (length (call_text call)) state.next (length call.lines)
 
 -- the answer of a page call: the number of hits written
-unfoldable pub pageAnswer : Call → Listing → Answer
-pageAnswer call state = first_of (pageCases call state) (accepted (length (callPage call state).found))
+unfoldable pub page_answer : Call → Listing → Answer
+page_answer call state = first_of (page_cases call state) (accepted (length (call_page call state).found))
 
 -- what a page call returns, and what its slice holds then
 pub record PageResult : Type 0 where
@@ -86,10 +86,10 @@ page_of call state =
     record {
       page =
           record {
-            answer = pageAnswer call state;
-            more = isAccepted (pageAnswer call state) && (callPage call state).more;
+            answer = page_answer call state;
+            more = is_accepted (page_answer call state) && (call_page call state).more;
             listing =
-                cond (isAccepted (pageAnswer call state)) (record { next = (callPage call state).next; finished = (callPage call state).finished }) state;
+                cond (is_accepted (page_answer call state)) (record { next = (call_page call state).next; finished = (call_page call state).finished }) state;
           };
-      lines = filled (pageAnswer call state) (callPage call state).found call.lines;
+      lines = filled (page_answer call state) (call_page call state).found call.lines;
     }

@@ -1,12 +1,12 @@
 // A listing of the places where a phrase stands, page by page: anywhere in the text, or only inside
 // one document.
 ghost use Rattle.std.specs.Prelude.{◌≡◌, true, false, length};
-ghost use Rattle.base.specs.Answers.{isAccepted};
+ghost use Rattle.base.specs.Answers.{is_accepted};
 ghost use Rattle.dense.specs.Code.{Closing};
-ghost use Rattle.index.specs.Arrays.{arrays, textIn};
-ghost use Rattle.documents.specs.Documents.{oneStart};
-ghost use Rattle.questions.specs.Answering.{hasAbsent, phraseIn};
-ghost use Rattle.listing.specs.Paging.{opened, unwritten, call_of, requestAnswer, pageAnswer, page_of};
+ghost use Rattle.index.specs.Arrays.{arrays, text_in};
+ghost use Rattle.documents.specs.Documents.{one_start};
+ghost use Rattle.questions.specs.Answering.{has_absent, phrase_in};
+ghost use Rattle.listing.specs.Paging.{opened, unwritten, call_of, request_answer, page_answer, page_of};
 
 use base::{Answer, refusal};
 use index::Shape;
@@ -68,7 +68,7 @@ impl Listing {
         count: usize,
         lines: &mut [u32],
     ) -> Page
-        ensures { (result ≡ (page_of (call_of 128 shape (arrays lengths.now bytes.now superblocks.now blocks.now) (oneStart (length (textIn 128 (arrays lengths.now bytes.now superblocks.now blocks.now)))) words.now start count lines.old) self).page) × (lines.new ≡ (page_of (call_of 128 shape (arrays lengths.now bytes.now superblocks.now blocks.now) (oneStart (length (textIn 128 (arrays lengths.now bytes.now superblocks.now blocks.now)))) words.now start count lines.old) self).lines) }
+        ensures { (result ≡ (page_of (call_of 128 shape (arrays lengths.now bytes.now superblocks.now blocks.now) (one_start (length (text_in 128 (arrays lengths.now bytes.now superblocks.now blocks.now)))) words.now start count lines.old) self).page) × (lines.new ≡ (page_of (call_of 128 shape (arrays lengths.now bytes.now superblocks.now blocks.now) (one_start (length (text_in 128 (arrays lengths.now bytes.now superblocks.now blocks.now)))) words.now start count lines.old) self).lines) }
     {
         let zero = [0u32; 1];
         page_of(
@@ -133,7 +133,7 @@ fn request_answer(
     next: usize,
     room: usize,
 ) -> Answer
-    ensures { result ≡ requestAnswer vocabulary words.now start count n next room }
+    ensures { result ≡ request_answer vocabulary words.now start count n next room }
 {
     let refused = phrase_checks::phrase_refusal(vocabulary, words, start, count);
     if refused != 0 {
@@ -163,8 +163,8 @@ fn written_page(
     count: usize,
     lines: &mut [u32],
 ) -> Page
-    requires { Closing s × (isAccepted (pageAnswer (call_of s shape (arrays lengths.now bytes.now superblocks.now blocks.now) documents.now words.now start count lines.old) state) ≡ true) × (state.finished ≡ false)
-        × (hasAbsent shape.vocabulary (phraseIn words.now start count) ≡ false) }
+    requires { Closing s × (is_accepted (page_answer (call_of s shape (arrays lengths.now bytes.now superblocks.now blocks.now) documents.now words.now start count lines.old) state) ≡ true) × (state.finished ≡ false)
+        × (has_absent shape.vocabulary (phrase_in words.now start count) ≡ false) }
     ensures { (result ≡ (page_of (call_of s shape (arrays lengths.now bytes.now superblocks.now blocks.now) documents.now words.now start count lines.old) state).page) × (lines.new ≡ (page_of (call_of s shape (arrays lengths.now bytes.now superblocks.now blocks.now) documents.now words.now start count lines.old) state).lines) }
 {
     let end = start + count;

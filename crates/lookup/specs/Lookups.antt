@@ -1,19 +1,19 @@
 -- What is found where the words of a text are looked up in a word list, part by part.
 use Rattle.std.specs.Prelude.{ℕ, cond, List, [], ◌∷◌, ltb, length}
-use Rattle.base.specs.Lists.{filterBy}
-use Rattle.hashing.specs.HashTables.{indexIn}
-use Rattle.lexicon.specs.Lexicon.{isIn}
+use Rattle.base.specs.Lists.{filter_by}
+use Rattle.hashing.specs.HashTables.{index_in}
+use Rattle.lexicon.specs.Lexicon.{is_in}
 use Rattle.lexicon.specs.Reading.{TextWord}
 
 -- how many of the words of a text are in a part
-unfoldable pub countIn : List ℕ → List ℕ → ℕ → ℕ → List TextWord → ℕ
-countIn table list from k ws = length (filterBy (λ w. ltb 0 (indexIn table list from k w.spelling)) ws)
+unfoldable pub count_in : List ℕ → List ℕ → ℕ → ℕ → List TextWord → ℕ
+count_in table list from k ws = length (filter_by (λ w. ltb 0 (index_in table list from k w.spelling)) ws)
 
 -- how many of the words of a text are in a list of words
-unfoldable pub countListed : List (List ℕ) → List TextWord → ℕ
-countListed words ws = length (filterBy (λ w. isIn words w.spelling) ws)
+unfoldable pub count_listed : List (List ℕ) → List TextWord → ℕ
+count_listed words ws = length (filter_by (λ w. is_in words w.spelling) ws)
 
 -- the offset of the first word that is not in a list of words; the given end where there is none
-abbrev pub firstMissing : List (List ℕ) → ℕ → List TextWord → ℕ
-firstMissing words end [] = end
-firstMissing words end (w ∷ ws) = cond (isIn words w.spelling) (firstMissing words end ws) w.offset
+abbrev pub first_missing : List (List ℕ) → ℕ → List TextWord → ℕ
+first_missing words end [] = end
+first_missing words end (w ∷ ws) = cond (is_in words w.spelling) (first_missing words end ws) w.offset

@@ -1,12 +1,12 @@
 // The words of a text, looked up in a word list part by part: how many are listed, and the first that is
 // not.
 ghost use Rattle.std.specs.Prelude.{◌≡◌, true, ◌≤◌, length, take};
-ghost use Rattle.lexicon.specs.Letters.{isTable};
+ghost use Rattle.lexicon.specs.Letters.{is_table};
 ghost use Rattle.lexicon.specs.Lexicon.{distinct};
-ghost use Rattle.lexicon.specs.Reading.{textWords, spellings};
-ghost use Rattle.scanning.specs.Scans.{wordsAt, WordBegins};
+ghost use Rattle.lexicon.specs.Reading.{text_words, spellings};
+ghost use Rattle.scanning.specs.Scans.{words_at, WordBegins};
 ghost use Rattle.hashing.specs.HashTables.{Room, HashTable};
-ghost use Rattle.lookup.specs.Lookups.{countIn, countListed, firstMissing};
+ghost use Rattle.lookup.specs.Lookups.{count_in, count_listed, first_missing};
 
 // How many of so many words of a text from a position on are in a part of a list.
 fn count_found(
@@ -21,8 +21,8 @@ fn count_found(
     at: usize,
     size: usize,
 ) -> usize
-    requires { (isTable table.now ≡ true) × HashTable table.now list.now from count heads.now links.now starts.now × WordBegins table.now text.now at × (size ≤ length (wordsAt table.now text.now at)) }
-    ensures { result ≡ countIn table.now list.now from count (take size (wordsAt table.now text.now at)) }
+    requires { (is_table table.now ≡ true) × HashTable table.now list.now from count heads.now links.now starts.now × WordBegins table.now text.now at × (size ≤ length (words_at table.now text.now at)) }
+    ensures { result ≡ count_in table.now list.now from count (take size (words_at table.now text.now at)) }
 {
     let mut start = at;
     let mut left = size;
@@ -55,8 +55,8 @@ pub fn count_listed(
     at: usize,
     size: usize,
 ) -> usize
-    requires { (isTable table.now ≡ true) × (words ≡ length (spellings table.now list.now)) × (distinct (spellings table.now list.now) ≡ true) × WordBegins table.now text.now at × (size ≤ length (wordsAt table.now text.now at)) × Room heads.old links.old starts.old }
-    ensures { result ≡ countListed (spellings table.now list.now) (take size (wordsAt table.now text.now at)) }
+    requires { (is_table table.now ≡ true) × (words ≡ length (spellings table.now list.now)) × (distinct (spellings table.now list.now) ≡ true) × WordBegins table.now text.now at × (size ≤ length (words_at table.now text.now at)) × Room heads.old links.old starts.old }
+    ensures { result ≡ count_listed (spellings table.now list.now) (take size (words_at table.now text.now at)) }
 {
     let mut from = scanning::word_start(table, list, 0);
     let mut first: usize = 0;
@@ -85,8 +85,8 @@ pub fn first_unlisted(
     text: &[u8],
     size: usize,
 ) -> usize
-    requires { (isTable table.now ≡ true) × (words ≡ length (spellings table.now list.now)) × (distinct (spellings table.now list.now) ≡ true) × (size ≡ length (textWords table.now text.now)) × Room heads.old links.old starts.old }
-    ensures { result ≡ firstMissing (spellings table.now list.now) (length text.now) (textWords table.now text.now) }
+    requires { (is_table table.now ≡ true) × (words ≡ length (spellings table.now list.now)) × (distinct (spellings table.now list.now) ≡ true) × (size ≡ length (text_words table.now text.now)) × Room heads.old links.old starts.old }
+    ensures { result ≡ first_missing (spellings table.now list.now) (length text.now) (text_words table.now text.now) }
 {
     let mut at = scanning::word_start(table, text, 0);
     if count_listed(table, list, words, heads, links, starts, text, at, size) == size {

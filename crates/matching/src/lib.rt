@@ -6,16 +6,16 @@
 ghost use Rattle.std.specs.Prelude.{◌≡◌, true, ◌&&◌, ◌+◌, ◌≤◌, ◌<◌, eqb, pos, ◌+ℤ◌, nat_abs, length, get_or};
 ghost use Rattle.base.specs.Lists.{Below};
 ghost use Rattle.base.specs.Answers.{front};
-ghost use Rattle.dense.specs.Code.{Closing, code, maxVocabulary};
-ghost use Rattle.tree.specs.Nodes.{firstByte};
-ghost use Rattle.index.specs.Arrays.{Arrays, arrays, textIn};
+ghost use Rattle.dense.specs.Code.{Closing, code, max_vocabulary};
+ghost use Rattle.tree.specs.Nodes.{first_byte};
+ghost use Rattle.index.specs.Arrays.{Arrays, arrays, text_in};
 ghost use Rattle.words.specs.Words.{rank_at};
 ghost use Rattle.words.specs.Ready.{Ready};
 ghost use Rattle.phrases.specs.Phrases.{stands};
-ghost use Rattle.phrases.specs.Neighbours.{standsAt};
-ghost use Rattle.documents.specs.Documents.{isAscending, sameDocument, standsIn, neighbourIn};
-ghost use Rattle.matching.specs.Sought.{hitIn};
-ghost use Rattle.matching.specs.Searching.{firstBytes, Searching, Paired};
+ghost use Rattle.phrases.specs.Neighbours.{stands_at};
+ghost use Rattle.documents.specs.Documents.{is_ascending, same_document, stands_in, neighbour_in};
+ghost use Rattle.matching.specs.Sought.{hit_in};
+ghost use Rattle.matching.specs.Searching.{first_bytes, Searching, Paired};
 
 use index::Shape;
 use phrases::Found;
@@ -43,8 +43,8 @@ fn agrees_at(
 ) -> bool
     ghost a: { Arrays }
     requires blocks_value { arrays lengths.now bytes.now superblocks.now blocks.now ≡ a }
-    requires ready { Ready s shape a starts.now × (place.0 < length (textIn s a)) }
-    ensures { result ≡ eqb (rank_at (textIn s a) place.0) rank }
+    requires ready { Ready s shape a starts.now × (place.0 < length (text_in s a)) }
+    ensures { result ≡ eqb (rank_at (text_in s a) place.0) rank }
 {
     let found = words::word_at(s, shape, lengths, bytes, superblocks, blocks, starts, place);
     found as usize == rank
@@ -64,8 +64,8 @@ fn words_stand(
 ) -> bool
     ghost a: { Arrays }
     requires blocks_value { arrays lengths.now bytes.now superblocks.now blocks.now ≡ a }
-    requires ready { Ready s shape a starts.now × (place.0 + length words.now ≤ length (textIn s a)) }
-    ensures { result ≡ stands (textIn s a) words.now place.0 }
+    requires ready { Ready s shape a starts.now × (place.0 + length words.now ≤ length (text_in s a)) }
+    ensures { result ≡ stands (text_in s a) words.now place.0 }
 {
     let mut i: usize = 0;
     while i < words.len() {
@@ -81,8 +81,8 @@ fn words_stand(
 
 // Writes the first byte of the codeword of each word to the front of a table.
 pub fn first_bytes(s: usize, words: &[u32], table: &mut [u8])
-    requires { Closing s × Below (maxVocabulary s) words.now × (length words.now ≤ length table.old) }
-    ensures { table.new ≡ front (firstBytes s words.now) table.old }
+    requires { Closing s × Below (max_vocabulary s) words.now × (length words.now ≤ length table.old) }
+    ensures { table.new ≡ front (first_bytes s words.now) table.old }
 {
     let mut i: usize = 0;
     while i < words.len() {
@@ -125,8 +125,8 @@ fn stands_at(
 ) -> bool
     ghost a: { Arrays }
     requires blocks_value { arrays lengths.now bytes.now superblocks.now blocks.now ≡ a }
-    requires searching { Searching s shape a starts.now firsts.now words.now × (place.0 ≤ length (textIn s a)) × (isAscending documents.now ≡ true) }
-    ensures { result ≡ standsIn documents.now (textIn s a) words.now place.0 }
+    requires searching { Searching s shape a starts.now firsts.now words.now × (place.0 ≤ length (text_in s a)) × (is_ascending documents.now ≡ true) }
+    ensures { result ≡ stands_in documents.now (text_in s a) words.now place.0 }
 {
     let n = words::text_length(lengths);
     if n < place.0 + words.len() {
@@ -173,8 +173,8 @@ fn word_stands(
 ) -> bool
     ghost a: { Arrays }
     requires blocks_value { arrays lengths.now bytes.now superblocks.now blocks.now ≡ a }
-    requires ready { Ready s shape a starts.now × (first ≡ firstByte (code s rank)) × (place.0 < length (textIn s a)) × (isAscending documents.now ≡ true) }
-    ensures { result ≡ sameDocument documents.now from.0 place.0 && eqb (rank_at (textIn s a) place.0) rank }
+    requires ready { Ready s shape a starts.now × (first ≡ first_byte (code s rank)) × (place.0 < length (text_in s a)) × (is_ascending documents.now ≡ true) }
+    ensures { result ≡ same_document documents.now from.0 place.0 && eqb (rank_at (text_in s a) place.0) rank }
 {
     let at = tree::root_position(place).0;
     if bytes[at] != first {
@@ -214,8 +214,8 @@ fn neighbour_at(
 ) -> bool
     ghost a: { Arrays }
     requires blocks_value { arrays lengths.now bytes.now superblocks.now blocks.now ≡ a }
-    requires ready { Ready s shape a starts.now × (place.0 < length (textIn s a)) × (first ≡ firstByte (code s rank)) × (isAscending documents.now ≡ true) }
-    ensures { result ≡ sameDocument documents.now place.0 (nat_abs (pos place.0 +ℤ offset)) && standsAt (textIn s a) rank (pos place.0 +ℤ offset) }
+    requires ready { Ready s shape a starts.now × (place.0 < length (text_in s a)) × (first ≡ first_byte (code s rank)) × (is_ascending documents.now ≡ true) }
+    ensures { result ≡ same_document documents.now place.0 (nat_abs (pos place.0 +ℤ offset)) && stands_at (text_in s a) rank (pos place.0 +ℤ offset) }
 {
     let n = words::text_length(lengths);
     let found = phrases::shifted(place, offset, n);
@@ -256,8 +256,8 @@ fn pair_at(
 ) -> bool
     ghost a: { Arrays }
     requires blocks_value { arrays lengths.now bytes.now superblocks.now blocks.now ≡ a }
-    requires searching { Searching s shape a starts.now firsts.now words.now × (length words.now ≡ 2) × (place.0 < length (textIn s a)) × (isAscending documents.now ≡ true) }
-    ensures { result ≡ neighbourIn documents.now (textIn s a) (get_or words.now 0 0) (get_or words.now 1 0) offset place.0 }
+    requires searching { Searching s shape a starts.now firsts.now words.now × (length words.now ≡ 2) × (place.0 < length (text_in s a)) × (is_ascending documents.now ≡ true) }
+    ensures { result ≡ neighbour_in documents.now (text_in s a) (get_or words.now 0 0) (get_or words.now 1 0) offset place.0 }
 {
     let first = words[0] as usize;
     if !agrees_at(
@@ -306,8 +306,8 @@ pub fn hit_at(
 ) -> bool
     ghost a: { Arrays }
     requires blocks_value { arrays lengths.now bytes.now superblocks.now blocks.now ≡ a }
-    requires searching { Searching s shape a starts.now firsts.now words.now × Paired words.now sought × (place.0 < length (textIn s a)) × (isAscending documents.now ≡ true) }
-    ensures { result ≡ hitIn documents.now (textIn s a) words.now sought place.0 }
+    requires searching { Searching s shape a starts.now firsts.now words.now × Paired words.now sought × (place.0 < length (text_in s a)) × (is_ascending documents.now ≡ true) }
+    ensures { result ≡ hit_in documents.now (text_in s a) words.now sought place.0 }
 {
     match sought {
         Sought::Phrase => stands_at(

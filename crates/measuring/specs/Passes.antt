@@ -1,23 +1,23 @@
 -- What the tests before the ranks, and the one pass over the ranks, tell. Only inner functions cite it.
 use Rattle.std.specs.Prelude.{ℕ, ◌≤◌, ◌≡◌, List, leb, length}
 use Rattle.base.specs.declared.Answer.{Answer}
-use Rattle.base.specs.Lists.{firstWhere}
+use Rattle.base.specs.Lists.{first_where}
 use Rattle.base.specs.Answers.{accepted}
-use Rattle.base.specs.Texts.{maxWords}
+use Rattle.base.specs.Texts.{max_words}
 use Rattle.dense.specs.Streams.{stream}
 use Rattle.index.specs.declared.Shape.{Shape}
 use Rattle.index.specs.Exact.{WithinLimits}
 use Rattle.measuring.specs.declared.RankPass.{RankPass}
-use Rattle.measuring.specs.Sizes.{measureAnswer}
+use Rattle.measuring.specs.Sizes.{measure_answer}
 
 -- the answer of the tests of V, of the number of words, and of B and b: their refusal, or 0 where all are within their limits
 pub record LimitsAnswer (s : ℕ) (shape : Shape) (t : List ℕ) (r : Answer) : Type 0 where
-  pub refuses : (r.refusal ≡ 0 → ⊥) → r ≡ measureAnswer s shape t
+  pub refuses : (r.refusal ≡ 0 → ⊥) → r ≡ measure_answer s shape t
   pub accepts : r.refusal ≡ 0 → r ≡ accepted 0
   pub limits : r.refusal ≡ 0 → WithinLimits s shape
-  pub words : r.refusal ≡ 0 → length t ≤ maxWords
+  pub words : r.refusal ≡ 0 → length t ≤ max_words
 
 -- the pass over the ranks of a text: the first place whose rank is not below V, and the length of its stream where there is none
 pub record PassOf (s vocab : ℕ) (t : List ℕ) (pass : RankPass) : Type 0 where
-  pub place : pass.place ≡ firstWhere (λ w. leb vocab w) t
+  pub place : pass.place ≡ first_where (λ w. leb vocab w) t
   pub bytes : length t ≤ pass.place → pass.bytes ≡ length (stream s t)

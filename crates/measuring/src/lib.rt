@@ -3,12 +3,12 @@
 //
 // The entry is `measure`, with 128 closing values.
 ghost use Rattle.std.specs.Prelude.{◌≡◌, suc, ◌*◌, ◌/◌, ◌≤◌, length};
-ghost use Rattle.base.specs.Texts.{maxWords};
+ghost use Rattle.base.specs.Texts.{max_words};
 ghost use Rattle.dense.specs.Code.{Closing};
-ghost use Rattle.directory.specs.Counters.{maxBytes};
-ghost use Rattle.tree.specs.Nodes.{nodeCount};
+ghost use Rattle.directory.specs.Counters.{max_bytes};
+ghost use Rattle.tree.specs.Nodes.{node_count};
 ghost use Rattle.index.specs.Exact.{WithinLimits};
-ghost use Rattle.measuring.specs.Sizes.{sizes, noSizes, sameSizes, measuredOf};
+ghost use Rattle.measuring.specs.Sizes.{sizes, no_sizes, same_sizes, measured_of};
 ghost use Rattle.measuring.specs.Passes.{LimitsAnswer, PassOf};
 
 use base::{Answer, refusal};
@@ -35,7 +35,7 @@ pub struct Measured {
 
 // Whether two times four sizes are the same.
 pub fn same_sizes(given: IndexSizes, own: IndexSizes) -> bool
-    ensures { result ≡ sameSizes given own }
+    ensures { result ≡ same_sizes given own }
 {
     (given.nodes == own.nodes)
         & (given.bytes == own.bytes)
@@ -56,7 +56,7 @@ const PART: usize = 2048;
 
 // Passes over the ranks of a text once, part by part.
 fn pass_ranks(s: usize, vocabulary: usize, text: &[u32]) -> RankPass
-    requires { Closing s × (length text.now ≤ maxWords) }
+    requires { Closing s × (length text.now ≤ max_words) }
     ensures { PassOf s vocabulary text.now result }
 {
     let mut bytes = 0;
@@ -96,7 +96,7 @@ fn limits_answer(s: usize, shape: Shape, text: &[u32]) -> Answer
 
 // What a refused call returns: four zeros beside its answer.
 fn without_sizes(answer: Answer) -> Measured
-    ensures { (result.answer ≡ answer) × (result.sizes ≡ noSizes) }
+    ensures { (result.answer ≡ answer) × (result.sizes ≡ no_sizes) }
 {
     let sizes = IndexSizes {
         nodes: 0,
@@ -109,8 +109,8 @@ fn without_sizes(answer: Answer) -> Measured
 
 // The sizes of an index of so many bytes.
 fn sizes_for(s: usize, shape: Shape, bytes: usize) -> IndexSizes
-    requires { Closing s × WithinLimits s shape × (bytes ≤ maxBytes) }
-    ensures { result ≡ sizes (nodeCount s shape.vocabulary) bytes (suc (bytes / (shape.block * shape.per_superblock))) (suc (bytes / shape.block)) }
+    requires { Closing s × WithinLimits s shape × (bytes ≤ max_bytes) }
+    ensures { result ≡ sizes (node_count s shape.vocabulary) bytes (suc (bytes / (shape.block * shape.per_superblock))) (suc (bytes / shape.block)) }
 {
     let nodes = tree::node_count(s, shape.vocabulary);
     let superblock_rows = tallies::row_count(bytes, shape.block * shape.per_superblock);
@@ -126,7 +126,7 @@ fn sizes_for(s: usize, shape: Shape, bytes: usize) -> IndexSizes
 // Measures a text with s closing values: all that is returned is as paper 02 says.
 pub fn measure_of(s: usize, shape: Shape, text: &[u32]) -> Measured
     requires { Closing s }
-    ensures { result ≡ measuredOf s shape text.now }
+    ensures { result ≡ measured_of s shape text.now }
 {
     let answer = limits_answer(s, shape, text);
     if answer.refusal != 0 {
@@ -144,7 +144,7 @@ pub fn measure_of(s: usize, shape: Shape, text: &[u32]) -> Measured
 // 3, and 4 with the first place whose rank is not below the vocabulary's size, have four zeros
 // beside them.
 pub fn measure(shape: Shape, text: &[u32]) -> Measured
-    ensures { result ≡ measuredOf 128 shape text.now }
+    ensures { result ≡ measured_of 128 shape text.now }
 {
     measure_of(dense::CLOSING, shape, text)
 }

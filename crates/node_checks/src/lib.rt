@@ -4,9 +4,9 @@
 ghost use Rattle.std.specs.Prelude.{◌≡◌, ◌-◌, ◌≤◌, ◌<◌, length, take, drop};
 ghost use Rattle.base.specs.Lists.{total};
 ghost use Rattle.dense.specs.Code.{Closing};
-ghost use Rattle.directory.specs.Counters.{row, maxBytes, Sizes, Directory};
-ghost use Rattle.tree.specs.Nodes.{maxNodes};
-ghost use Rattle.node_checks.specs.Tests.{valueTest, nodePasses, nodesPass};
+ghost use Rattle.directory.specs.Counters.{row, max_bytes, Sizes, Directory};
+ghost use Rattle.tree.specs.Nodes.{max_nodes};
+ghost use Rattle.node_checks.specs.Tests.{value_test, node_passes, nodes_pass};
 
 use index::Shape;
 
@@ -15,7 +15,7 @@ const LONG: usize = 32;
 
 // How often each byte value stands in a part.
 fn histogram(part: &[u8]) -> [u32; 256]
-    requires { length part.now ≤ maxBytes }
+    requires { length part.now ≤ max_bytes }
     ensures { result ≡ row part.now }
 {
     let mut counts = [0u32; 256];
@@ -82,8 +82,8 @@ fn value_passes(
     value: u8,
     count: u32,
 ) -> bool
-    requires { Closing s × (node < maxNodes s) }
-    ensures { result ≡ valueTest s vocabulary lengths.now node value count }
+    requires { Closing s × (node < max_nodes s) }
+    ensures { result ≡ value_test s vocabulary lengths.now node value count }
 {
     let least = 256 - s;
     let byte = value as usize;
@@ -112,8 +112,8 @@ fn node_passes(
     start: usize,
     end: usize,
 ) -> bool
-    requires { Closing s × (node < maxNodes s) × Sizes shape.block shape.per_superblock bytes.now × Directory shape.block shape.per_superblock bytes.now superblocks.now blocks.now × (start ≤ end) × (end ≤ length bytes.now) }
-    ensures { result ≡ nodePasses s shape.vocabulary lengths.now node (take (end - start) (drop start bytes.now)) }
+    requires { Closing s × (node < max_nodes s) × Sizes shape.block shape.per_superblock bytes.now × Directory shape.block shape.per_superblock bytes.now superblocks.now blocks.now × (start ≤ end) × (end ≤ length bytes.now) }
+    ensures { result ≡ node_passes s shape.vocabulary lengths.now node (take (end - start) (drop start bytes.now)) }
 {
     let counts = node_row(shape, bytes, superblocks, blocks, start, end);
     let vocabulary = shape.vocabulary;
@@ -136,8 +136,8 @@ pub fn nodes_pass(
     superblocks: &[u32],
     blocks: &[u16],
 ) -> bool
-    requires { Closing s × (length lengths.now ≤ maxNodes s) × Sizes shape.block shape.per_superblock bytes.now × Directory shape.block shape.per_superblock bytes.now superblocks.now blocks.now × (total lengths.now ≡ length bytes.now) }
-    ensures { result ≡ nodesPass s shape.vocabulary lengths.now bytes.now }
+    requires { Closing s × (length lengths.now ≤ max_nodes s) × Sizes shape.block shape.per_superblock bytes.now × Directory shape.block shape.per_superblock bytes.now superblocks.now blocks.now × (total lengths.now ≡ length bytes.now) }
+    ensures { result ≡ nodes_pass s shape.vocabulary lengths.now bytes.now }
 {
     let mut start: usize = 0;
     let mut node = 0;

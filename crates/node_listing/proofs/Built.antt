@@ -9,35 +9,35 @@ use lib.ListN.{length, take, length-take}
 use Rattle.base.specs.declared.Answer.{Answer}
 use Rattle.base.specs.Lists.{total, segments}
 use Rattle.base.specs.Answers.{front}
-use Rattle.base.proofs.Tests.{or-false}
-use Rattle.base.proofs.Fronts.{take-front}
+use Rattle.base.proofs.Tests.{or_false}
+use Rattle.base.proofs.Fronts.{take_front}
 use Rattle.dense.specs.Streams.{stream}
-use Rattle.tree.specs.Nodes.{nodeCount, nodes}
+use Rattle.tree.specs.Nodes.{node_count, nodes}
 use Rattle.index.specs.declared.Shape.{Shape}
 use Rattle.index.specs.Arrays.{Arrays, index_of}
-use Rattle.index.specs.Entries.{isShorter, buildAnswer, buildExit}
-use Rattle.writing.specs.Slices.{tooShort}
-use Rattle.index.proofs.Refusals.{build-accepted, build-filled}
-use Rattle.index.proofs.Texts.{total-lengths, length-bytes, nodes-of-index, count-lengths}
-use Rattle.writing.proofs.Builds.{short-is}
-use Rattle.node_lines.specs.Lines.{countsLine, nodeLines}
-use Rattle.node_listing.specs.Listing.{vocabularyOf, listedShape, maxStreamWords, maxStreamVocabulary}
-use Rattle.node_listing.proofs.Vocabulary.{below-vocabulary}
-use Rattle.node_listing.proofs.Lengths.{published, within, is-text, bytes_most, node-count-most}
+use Rattle.index.specs.Entries.{is_shorter, build_answer, build_exit}
+use Rattle.writing.specs.Slices.{too_short}
+use Rattle.index.proofs.Refusals.{build_accepted, build_filled}
+use Rattle.index.proofs.Texts.{total_lengths, length_bytes, nodes_of_index, count_lengths}
+use Rattle.writing.proofs.Builds.{short_is}
+use Rattle.node_lines.specs.Lines.{counts_line, node_lines}
+use Rattle.node_listing.specs.Listing.{vocabulary_of, listed_shape, max_stream_words, max_stream_vocabulary}
+use Rattle.node_listing.proofs.Vocabulary.{below_vocabulary}
+use Rattle.node_listing.proofs.Lengths.{published, within, is_text_lem, bytes_most, node_count_most}
 
 -- the two parts of a text's listing: the line of its numbers, and the lines of its nodes
-abbrev pub countsOf : List ℕ → List ℕ
-countsOf t = countsLine (length t) (nodeCount 128 (vocabularyOf t)) (length (index_of 128 (listedShape t) t).bytes)
+abbrev pub counts_of : List ℕ → List ℕ
+counts_of t = counts_line (length t) (node_count 128 (vocabulary_of t)) (length (index_of 128 (listed_shape t) t).bytes)
 
 abbrev pub lines_of : List ℕ → List ℕ
-lines_of t = nodeLines 0 (nodes 128 (vocabularyOf t) t)
+lines_of t = node_lines 0 (nodes 128 (vocabulary_of t) t)
 
 -- the index of t stands in front of the slices: the number of nodes and their bytes, and the two fronts
 pub record Listed (t : List ℕ) (count sum : ℕ) (lengths bytes : List ℕ) : Type 0 where
-  pub counted : count ≡ nodeCount 128 (vocabularyOf t)
-  pub summed : sum ≡ length (index_of 128 (listedShape t) t).bytes
-  pub lengths-are : take count lengths ≡ (index_of 128 (listedShape t) t).lengths
-  pub bytes-are : take sum bytes ≡ (index_of 128 (listedShape t) t).bytes
+  pub counted : count ≡ node_count 128 (vocabulary_of t)
+  pub summed : sum ≡ length (index_of 128 (listed_shape t) t).bytes
+  pub lengths_are : take count lengths ≡ (index_of 128 (listed_shape t) t).lengths
+  pub bytes_are : take sum bytes ≡ (index_of 128 (listed_shape t) t).bytes
 
 -- slices that are long enough for every index of at most 8,192 bytes and 129 nodes
 pub record Long (z : Arrays) : Type 0 where
@@ -47,67 +47,67 @@ pub record Long (z : Arrays) : Type 0 where
   pub blocks : length z.blocks ≡ 8448
 
 -- what stands in front of a slice is taken from it
-front-taken : (xs z y : List ℕ) (n : ℕ) → y ≡ front xs z → n ≡ length xs → take n y ≡ xs
-front-taken xs z y n e l = ap₂ take l e ∙ take-front xs z
+front_taken : (xs z y : List ℕ) (n : ℕ) → y ≡ front xs z → n ≡ length xs → take n y ≡ xs
+front_taken xs z y n e l = ap₂ take l e ∙ take_front xs z
 
-module _ (t : List ℕ) (short : length t ≤ maxStreamWords) (small : vocabularyOf t ≤ maxStreamVocabulary) where
+module _ (t : List ℕ) (short : length t ≤ max_stream_words) (small : vocabulary_of t ≤ max_stream_vocabulary) where
   module _ (z : Arrays) (long : Long z) where
-    room : isShorter z (index_of 128 (listedShape t) t) ≡ false
-    unfolding tooShort
+    room : is_shorter z (index_of 128 (listed_shape t) t) ≡ false
+    unfolding too_short
     room =
         let l = length (stream 128 t) in
         let m : l ≤ 8192 = bytes_most t short small in
-        sym (short-is 128 (listedShape t) t published (within t short small) (is-text t short small) z)
-        ∙ or-false _ _
-        (or-false _ _
-        (or-false _ _
-        (le-ltb (length z.lengths) (nodeCount 128 (vocabularyOf t)) (omega (arith, long.lengths, node-count-most t short small)))
+        sym (short_is 128 (listed_shape t) t published (within t short small) (is_text_lem t short small) z)
+        ∙ or_false _ _
+        (or_false _ _
+        (or_false _ _
+        (le-ltb (length z.lengths) (node_count 128 (vocabulary_of t)) (omega (arith, long.lengths, node_count_most t short small)))
         (le-ltb (length z.bytes) l (omega (arith, long.bytes))))
         (le-ltb (length z.superblocks) (suc (l / 2048) * 256) (omega (arith, long.superblocks))))
         (le-ltb (length z.blocks) (suc (l / 256) * 256) (omega (arith, long.blocks)))
 
     -- what the call with this V has built
-    pub listed : (vocab : ℕ) → vocab ≡ vocabularyOf t → (r : Answer) (a : Arrays) (count : ℕ)
-        → r ≡ buildAnswer 128 record { vocabulary = vocab; block = 256; per_superblock = 8 } t z
-        → a ≡ buildExit 128 record { vocabulary = vocab; block = 256; per_superblock = 8 } t z
-        → count ≡ nodeCount 128 vocab → Listed t count r.value a.lengths a.bytes
+    pub listed : (vocab : ℕ) → vocab ≡ vocabulary_of t → (r : Answer) (a : Arrays) (count : ℕ)
+        → r ≡ build_answer 128 record { vocabulary = vocab; block = 256; per_superblock = 8 } t z
+        → a ≡ build_exit 128 record { vocabulary = vocab; block = 256; per_superblock = 8 } t z
+        → count ≡ node_count 128 vocab → Listed t count r.value a.lengths a.bytes
     listed vocab v r a count answered filled counted =
-        let shape : ◌≡◌ {A = Shape} record { vocabulary = vocab; block = 256; per_superblock = 8 } (listedShape t) = ap (λ (n : ℕ). record { vocabulary = n; block = 256; per_superblock = 8 }) v in
-        let accepted = answered ∙ ap (λ (s : Shape). buildAnswer 128 s t z) shape ∙ build-accepted 128 (listedShape t) t z (within t short small) (is-text t short small) room in
-        let fronts = filled ∙ ap (λ (s : Shape). buildExit 128 s t z) shape ∙ build-filled 128 (listedShape t) t z (within t short small) (is-text t short small) room in
-        let n : count ≡ nodeCount 128 (vocabularyOf t) = counted ∙ ap (nodeCount 128) v in
+        let shape : ◌≡◌ {A = Shape} record { vocabulary = vocab; block = 256; per_superblock = 8 } (listed_shape t) = ap (λ (n : ℕ). record { vocabulary = n; block = 256; per_superblock = 8 }) v in
+        let accepted = answered ∙ ap (λ (s : Shape). build_answer 128 s t z) shape ∙ build_accepted 128 (listed_shape t) t z (within t short small) (is_text_lem t short small) room in
+        let fronts = filled ∙ ap (λ (s : Shape). build_exit 128 s t z) shape ∙ build_filled 128 (listed_shape t) t z (within t short small) (is_text_lem t short small) room in
+        let n : count ≡ node_count 128 (vocabulary_of t) = counted ∙ ap (node_count 128) v in
         record {
           counted = n;
           summed = ap (λ (x : Answer). x.value) accepted;
-          lengths-are = front-taken (index_of 128 (listedShape t) t).lengths z.lengths a.lengths count (ap (λ (x : Arrays). x.lengths) fronts) (n ∙ sym (count-lengths 128 (listedShape t) t));
-          bytes-are = front-taken (index_of 128 (listedShape t) t).bytes z.bytes a.bytes r.value (ap (λ (x : Arrays). x.bytes) fronts) (ap (λ (x : Answer). x.value) accepted);
+          lengths_are = front_taken (index_of 128 (listed_shape t) t).lengths z.lengths a.lengths count (ap (λ (x : Arrays). x.lengths) fronts) (n ∙ sym (count_lengths 128 (listed_shape t) t));
+          bytes_are = front_taken (index_of 128 (listed_shape t) t).bytes z.bytes a.bytes r.value (ap (λ (x : Arrays). x.bytes) fronts) (ap (λ (x : Answer). x.value) accepted);
         }
 
   module _ {count sum : ℕ} {lengths bytes : List ℕ} (is : Listed t count sum lengths bytes) where
     -- as many as were counted are there
-    pub count-taken : count ≡ length (take count lengths)
-    count-taken = is.counted ∙ sym (count-lengths 128 (listedShape t) t) ∙ sym (ap length is.lengths-are)
+    pub count_taken : count ≡ length (take count lengths)
+    count_taken = is.counted ∙ sym (count_lengths 128 (listed_shape t) t) ∙ sym (ap length is.lengths_are)
 
-    pub sum-taken : sum ≡ length (take sum bytes)
-    sum-taken = is.summed ∙ sym (ap length is.bytes-are)
+    pub sum_taken : sum ≡ length (take sum bytes)
+    sum_taken = is.summed ∙ sym (ap length is.bytes_are)
 
     pub sum_inside : sum ≤ length bytes
-    sum_inside = omega (arith, sum-taken, length-take sum bytes)
+    sum_inside = omega (arith, sum_taken, length-take sum bytes)
 
     -- the nodes lie in the bytes
-    pub nodes-inside : total (take count lengths) ≤ length (take sum bytes)
-    nodes-inside =
+    pub nodes_inside : total (take count lengths) ≤ length (take sum bytes)
+    nodes_inside =
         omega (
           arith,
-          ap total is.lengths-are,
-          ap length is.bytes-are,
-          total-lengths 128 published (listedShape t) (within t short small).mostWords t (below-vocabulary t),
-          length-bytes 128 published (listedShape t) (within t short small).mostWords t (below-vocabulary t),
+          ap total is.lengths_are,
+          ap length is.bytes_are,
+          total_lengths 128 published (listed_shape t) (within t short small).most_words t (below_vocabulary t),
+          length_bytes 128 published (listed_shape t) (within t short small).most_words t (below_vocabulary t),
         )
 
     -- so that what is written of them are the two parts
-    pub counts-are : countsLine (length t) count sum ≡ countsOf t
-    counts-are = ap₂ (countsLine (length t)) is.counted is.summed
+    pub counts_are : counts_line (length t) count sum ≡ counts_of t
+    counts_are = ap₂ (counts_line (length t)) is.counted is.summed
 
-    pub lines_are : nodeLines 0 (segments (take count lengths) (take sum bytes)) ≡ lines_of t
-    lines_are = ap (nodeLines 0) (ap₂ segments is.lengths-are is.bytes-are ∙ nodes-of-index 128 (listedShape t) t)
+    pub lines_are : node_lines 0 (segments (take count lengths) (take sum bytes)) ≡ lines_of t
+    lines_are = ap (node_lines 0) (ap₂ segments is.lengths_are is.bytes_are ∙ nodes_of_index 128 (listed_shape t) t)

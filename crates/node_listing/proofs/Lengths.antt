@@ -8,102 +8,102 @@ use native.Mathlib.Omega.{arith}
 use borrow.Author.Tests.{lt-ltb, le-ltb, ltb-false}
 use lib.Dec.{ltb}
 use lib.ListN.{length, length-append}
-use Rattle.base.specs.Lists.{Below, total, rangeFrom}
-use Rattle.base.proofs.Lists.{below-weaken}
-use Rattle.base.proofs.Tests.{below_or_not, or-neither}
-use Rattle.base.proofs.Ranges.{length-map-range}
-use Rattle.node_lines.proofs.Lengths.{headLength, refusal-length, counts-length, lines-length, heads-most}
+use Rattle.base.specs.Lists.{Below, total, range_from}
+use Rattle.base.proofs.Lists.{below_weaken}
+use Rattle.base.proofs.Tests.{below_or_not, or_neither}
+use Rattle.base.proofs.Ranges.{length_map_range}
+use Rattle.node_lines.proofs.Lengths.{head_length, refusal_length, counts_length, lines_length, heads_most}
 use Rattle.dense.specs.Code.{Closing}
-use Rattle.dense.specs.Laws.{codeLength}
-use Rattle.dense.specs.Streams.{stream, isBroken, streamText, closings}
-use Rattle.dense.proofs.Streams.{stream-length, closings-whole, length-stream-text}
-use Rattle.tree.specs.Nodes.{nodeCount, nodeBytes, nodes}
-use Rattle.index.specs.Arrays.{index_of, lengthsOf}
+use Rattle.dense.specs.Laws.{code_length}
+use Rattle.dense.specs.Streams.{stream, is_broken, stream_text, closings}
+use Rattle.dense.proofs.Streams.{stream_length_lem, closings_whole, length_stream_text}
+use Rattle.tree.specs.Nodes.{node_count, node_bytes, nodes}
+use Rattle.index.specs.Arrays.{index_of, lengths_of}
 use Rattle.index.specs.Exact.{WithinLimits, IsText}
-use Rattle.index.proofs.Texts.{total-lengths, length-bytes}
-use Rattle.node_lines.specs.Lines.{countsLine, nodeLines}
-use Rattle.node_listing.specs.Listing.{vocabularyOf, listedShape, indexListing, maxStream, maxStreamWords, maxStreamVocabulary, textListing, isLong, listing}
-use Rattle.node_listing.specs.Calls.{maxListing, ListingFits}
-use Rattle.node_listing.proofs.Vocabulary.{below-vocabulary}
-use Rattle.node_listing.proofs.Refusals.{text-refused, text-listed, is-long, is-broken, is_whole}
+use Rattle.index.proofs.Texts.{total_lengths, length_bytes}
+use Rattle.node_lines.specs.Lines.{counts_line, node_lines}
+use Rattle.node_listing.specs.Listing.{vocabulary_of, listed_shape, index_listing, max_stream, max_stream_words, max_stream_vocabulary, text_listing, is_long, listing}
+use Rattle.node_listing.specs.Calls.{max_listing, ListingFits}
+use Rattle.node_listing.proofs.Vocabulary.{below_vocabulary}
+use Rattle.node_listing.proofs.Refusals.{text_refused, text_listed, is_long_lem, is_broken_lem, is_whole}
 
 -- the published code
 pub published : Closing 128
 published = record { least = omega arith; most = omega arith }
 
 -- a rank below 16,512 has a codeword of at most two bytes
-two_bytes : (w : ℕ) → w < maxStreamVocabulary → codeLength 128 w ≤ 2
+two_bytes : (w : ℕ) → w < max_stream_vocabulary → code_length 128 w ≤ 2
 two_bytes w h = go (below_or_not w 128)
   where
-    go : (w < 128) ⊎ (128 ≤ w) → codeLength 128 w ≤ 2
+    go : (w < 128) ⊎ (128 ≤ w) → code_length 128 w ≤ 2
     go (inl l) = rw (lt-ltb w 128 l) (omega arith)
     go (inr l) = rw (le-ltb w 128 l, lt-ltb w 16512 h) (omega arith)
 
-two-most : (t : List ℕ) → Below maxStreamVocabulary t → total (map (codeLength 128) t) ≤ 2 * length t
-two-most [] h = omega arith
-two-most (w ∷ t) h = omega (arith, two_bytes w h.0, two-most t h.1)
+two_most : (t : List ℕ) → Below max_stream_vocabulary t → total (map (code_length 128) t) ≤ 2 * length t
+two_most [] h = omega arith
+two_most (w ∷ t) h = omega (arith, two_bytes w h.0, two_most t h.1)
 
-module _ (t : List ℕ) (short : length t ≤ maxStreamWords) (small : vocabularyOf t ≤ maxStreamVocabulary) where
+module _ (t : List ℕ) (short : length t ≤ max_stream_words) (small : vocabulary_of t ≤ max_stream_vocabulary) where
   -- V, B and b are within their limits
-  pub within : WithinLimits 128 (listedShape t)
-  within = record { someWord = omega arith; mostWords = omega arith; someByte = omega arith; someBlock = omega arith; mostBytes = omega arith }
+  pub within : WithinLimits 128 (listed_shape t)
+  within = record { some_word = omega arith; most_words = omega arith; some_byte = omega arith; some_block = omega arith; most_bytes = omega arith }
 
   -- the ranks are a text of the vocabulary
-  pub is-text : IsText (vocabularyOf t) t
-  is-text = record { short = omega arith; ranks = below-vocabulary t }
+  pub is_text_lem : IsText (vocabulary_of t) t
+  is_text_lem = record { short = omega arith; ranks = below_vocabulary t }
 
   -- there are at most 8,192 bytes, and 129 nodes
-  pub bytes_most : length (stream 128 t) ≤ maxStream
-  bytes_most = omega (arith, stream-length 128 t, two-most t (below-weaken (vocabularyOf t) maxStreamVocabulary t small (below-vocabulary t)))
+  pub bytes_most : length (stream 128 t) ≤ max_stream
+  bytes_most = omega (arith, stream_length_lem 128 t, two_most t (below_weaken (vocabulary_of t) max_stream_vocabulary t small (below_vocabulary t)))
 
-  pub node-count-most : nodeCount 128 (vocabularyOf t) ≤ 129
-  node-count-most = omega arith
+  pub node_count_most : node_count 128 (vocabulary_of t) ≤ 129
+  node_count_most = omega arith
 
-  pub nodes-count : length (nodes 128 (vocabularyOf t) t) ≡ nodeCount 128 (vocabularyOf t)
+  pub nodes_count : length (nodes 128 (vocabulary_of t) t) ≡ node_count 128 (vocabulary_of t)
   unfolding nodes
-  nodes-count = length-map-range (λ (k : ℕ). nodeBytes 128 k t) 0 (nodeCount 128 (vocabularyOf t))
+  nodes_count = length_map_range (λ (k : ℕ). node_bytes 128 k t) 0 (node_count 128 (vocabulary_of t))
 
-  nodes-total : total (map length (nodes 128 (vocabularyOf t) t)) ≡ length (stream 128 t)
-  unfolding index_of lengthsOf
-  nodes-total = total-lengths 128 published (listedShape t) within.mostWords t (below-vocabulary t)
+  nodes_total : total (map length (nodes 128 (vocabulary_of t) t)) ≡ length (stream 128 t)
+  unfolding index_of lengths_of
+  nodes_total = total_lengths 128 published (listed_shape t) within.most_words t (below_vocabulary t)
 
   -- so the listing has a most
-  pub index-length : length (indexListing t) ≤ maxListing
-  unfolding indexListing
-  index-length =
-      let l : length (index_of 128 (listedShape t) t).bytes ≡ length (stream 128 t) = length-bytes 128 published (listedShape t) within.mostWords t (below-vocabulary t) in
-      let line = countsLine (length t) (nodeCount 128 (vocabularyOf t)) (length (index_of 128 (listedShape t) t).bytes) in
-      let ns = nodes 128 (vocabularyOf t) t in
-      let heads : total (map headLength (rangeFrom 0 (length ns))) ≤ 1180 = heads-most (length ns) (omega (arith, nodes-count, node-count-most)) in
+  pub index_length : length (index_listing t) ≤ max_listing
+  unfolding index_listing
+  index_length =
+      let l : length (index_of 128 (listed_shape t) t).bytes ≡ length (stream 128 t) = length_bytes 128 published (listed_shape t) within.most_words t (below_vocabulary t) in
+      let line = counts_line (length t) (node_count 128 (vocabulary_of t)) (length (index_of 128 (listed_shape t) t).bytes) in
+      let ns = nodes 128 (vocabulary_of t) t in
+      let heads : total (map head_length (range_from 0 (length ns))) ≤ 1180 = heads_most (length ns) (omega (arith, nodes_count, node_count_most)) in
       omega (
         arith,
-        length-append line (nodeLines 0 ns),
-        counts-length (length t) (nodeCount 128 (vocabularyOf t)) (length (index_of 128 (listedShape t) t).bytes) short node-count-most (omega (arith, bytes_most)),
-        lines-length 0 ns,
-        nodes-total,
+        length-append line (node_lines 0 ns),
+        counts_length (length t) (node_count 128 (vocabulary_of t)) (length (index_of 128 (listed_shape t) t).bytes) short node_count_most (omega (arith, bytes_most)),
+        lines_length 0 ns,
+        nodes_total,
         bytes_most,
       )
 
 -- of a text of at most 4,096 words
-pub text-length : (t : List ℕ) → length t ≤ maxStreamWords → length (textListing t) ≤ maxListing
-text-length t short = go (below_or_not maxStreamVocabulary (vocabularyOf t))
+pub text_length_lem : (t : List ℕ) → length t ≤ max_stream_words → length (text_listing t) ≤ max_listing
+text_length_lem t short = go (below_or_not max_stream_vocabulary (vocabulary_of t))
   where
-    go : (maxStreamVocabulary < vocabularyOf t) ⊎ (vocabularyOf t ≤ maxStreamVocabulary) → length (textListing t) ≤ maxListing
-    go (inl l) = rw (text-refused t l) (omega (arith, refusal-length 1 (omega arith)))
-    go (inr l) = rw (text-listed t l) (index-length t short l)
+    go : (max_stream_vocabulary < vocabulary_of t) ⊎ (vocabulary_of t ≤ max_stream_vocabulary) → length (text_listing t) ≤ max_listing
+    go (inl l) = rw (text_refused t l) (omega (arith, refusal_length 1 (omega arith)))
+    go (inr l) = rw (text_listed t l) (index_length t short l)
 
 -- a stream that is not broken has as many words as closing bytes
-pub words-counted : (bytes : List ℕ) → Below 256 bytes → isBroken 128 bytes ≡ false → length (streamText 128 bytes) ≡ closings 128 bytes
-words-counted bytes b e = length-stream-text 128 bytes ∙ sym (closings-whole 128 bytes b e)
+pub words_counted : (bytes : List ℕ) → Below 256 bytes → is_broken 128 bytes ≡ false → length (stream_text 128 bytes) ≡ closings 128 bytes
+words_counted bytes b e = length_stream_text 128 bytes ∙ sym (closings_whole 128 bytes b e)
 
 -- of every stream
-pub listing-fits : ListingFits
-listing-fits stream b = go (isLong stream) refl (isBroken 128 stream) refl
+pub listing_fits : ListingFits
+listing_fits stream b = go (is_long stream) refl (is_broken 128 stream) refl
   where
-    go : (long : Bool) → isLong stream ≡ long → (broken : Bool) → isBroken 128 stream ≡ broken → length (listing stream) ≤ maxListing
-    go true p broken q = rw (is-long stream p) (omega (arith, refusal-length 2 (omega arith)))
-    go false p true q = rw (is-broken stream p q) (omega (arith, refusal-length 15 (omega arith)))
+    go : (long : Bool) → is_long stream ≡ long → (broken : Bool) → is_broken 128 stream ≡ broken → length (listing stream) ≤ max_listing
+    go true p broken q = rw (is_long_lem stream p) (omega (arith, refusal_length 2 (omega arith)))
+    go false p true q = rw (is_broken_lem stream p q) (omega (arith, refusal_length 15 (omega arith)))
     go false p false q =
-        let w : length (streamText 128 stream) ≤ maxStreamWords =
-        omega (arith, words-counted stream b q, ltb-false maxStreamWords (closings 128 stream) (or-neither (ltb maxStream (length stream)) (ltb maxStreamWords (closings 128 stream)) p).1) in
-        rw (is_whole stream p q) (text-length (streamText 128 stream) w)
+        let w : length (stream_text 128 stream) ≤ max_stream_words =
+        omega (arith, words_counted stream b q, ltb-false max_stream_words (closings 128 stream) (or_neither (ltb max_stream (length stream)) (ltb max_stream_words (closings 128 stream)) p).1) in
+        rw (is_whole stream p q) (text_length_lem (stream_text 128 stream) w)

@@ -6,12 +6,12 @@ use native.Mathlib.Omega.{arith}
 use native.Mathlib.Numerals.{add-one}
 use lib.ListN.{length, take, get_or}
 use Rattle.base.specs.Lists.{Below}
-use Rattle.base.proofs.Lists.{below-weaken}
-use Rattle.node_listing.specs.Listing.{largest, vocabularyOf}
+use Rattle.base.proofs.Lists.{below_weaken}
+use Rattle.node_listing.specs.Listing.{largest, vocabulary_of}
 
 -- the largest of the first i + 1 ranks
-pub largest-next : (t : List ℕ) (i : ℕ) → i < length t → largest (take (i + 1) t) ≡ max (largest (take i t)) (get_or t i 0)
-largest-next t i h = rw add-one (go t i h)
+pub largest_next : (t : List ℕ) (i : ℕ) → i < length t → largest (take (i + 1) t) ≡ max (largest (take i t)) (get_or t i 0)
+largest_next t i h = rw add-one (go t i h)
   where
     go : (t : List ℕ) (i : ℕ) → i < length t → largest (take (suc i) t) ≡ max (largest (take i t)) (get_or t i 0)
     go [] i h = absurd (omega arith)
@@ -19,6 +19,6 @@ largest-next t i h = rw add-one (go t i h)
     go (w ∷ t) (suc i) h = omega (arith, go t i (omega arith))
 
 -- all ranks are below V
-pub below-vocabulary : (t : List ℕ) → Below (vocabularyOf t) t
-below-vocabulary [] = tt
-below-vocabulary (w ∷ t) = (omega arith, below-weaken (vocabularyOf t) (vocabularyOf (w ∷ t)) t (omega arith) (below-vocabulary t))
+pub below_vocabulary : (t : List ℕ) → Below (vocabulary_of t) t
+below_vocabulary [] = tt
+below_vocabulary (w ∷ t) = (omega arith, below_weaken (vocabulary_of t) (vocabulary_of (w ∷ t)) t (omega arith) (below_vocabulary t))

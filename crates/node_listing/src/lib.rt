@@ -5,8 +5,8 @@
 
 ghost use Rattle.std.specs.Prelude.{◌≡◌, ◌≤◌, length};
 ghost use Rattle.formatting.specs.Writing.{Wrote};
-ghost use Rattle.node_listing.specs.Listing.{vocabularyOf, maxStreamWords, maxStreamVocabulary, indexListing, textListing, listing};
-ghost use Rattle.node_listing.specs.Calls.{maxListing, listingAnswer, listingExit};
+ghost use Rattle.node_listing.specs.Listing.{vocabulary_of, max_stream_words, max_stream_vocabulary, index_listing, text_listing, listing};
+ghost use Rattle.node_listing.specs.Calls.{max_listing, listing_answer, listing_exit};
 
 use base::{Answer, refusal};
 use index::Shape;
@@ -25,7 +25,7 @@ const MAX_VOCABULARY: usize = 16512;
 
 // One above the largest rank of a text; 1 where there is no word.
 fn vocabulary_of(text: &[u32]) -> usize
-    ensures { result ≡ vocabularyOf text.now }
+    ensures { result ≡ vocabulary_of text.now }
 {
     let mut largest: usize = 0;
     let mut place = 0;
@@ -43,8 +43,8 @@ fn vocabulary_of(text: &[u32]) -> usize
 // how many bytes that takes. Its index has at most 129 nodes, 8,192 bytes, and 5 superblock rows and 33
 // block rows of 256 counters each.
 fn list_index(vocabulary: usize, text: &[u32], output: &mut [u8]) -> usize
-    requires { (length text.now ≤ maxStreamWords) × (vocabulary ≡ vocabularyOf text.now) × (vocabulary ≤ maxStreamVocabulary) × (maxListing ≤ length output.old) }
-    ensures { Wrote (indexListing text.now) 0 output.old result output.new }
+    requires { (length text.now ≤ max_stream_words) × (vocabulary ≡ vocabulary_of text.now) × (vocabulary ≤ max_stream_vocabulary) × (max_listing ≤ length output.old) }
+    ensures { Wrote (index_listing text.now) 0 output.old result output.new }
 {
     let mut lengths = [0u32; 129];
     let mut bytes = [0u8; 8192];
@@ -71,8 +71,8 @@ fn list_index(vocabulary: usize, text: &[u32], output: &mut [u8]) -> usize
 
 // Writes the listing of a text so; refusal 1 if V is too large.
 fn list_text(text: &[u32], output: &mut [u8]) -> usize
-    requires { (length text.now ≤ maxStreamWords) × (maxListing ≤ length output.old) }
-    ensures { Wrote (textListing text.now) 0 output.old result output.new }
+    requires { (length text.now ≤ max_stream_words) × (max_listing ≤ length output.old) }
+    ensures { Wrote (text_listing text.now) 0 output.old result output.new }
 {
     let vocabulary = vocabulary_of(text);
     if MAX_VOCABULARY < vocabulary {
@@ -84,7 +84,7 @@ fn list_text(text: &[u32], output: &mut [u8]) -> usize
 // Writes the listing of a stream so: refusal 2 if it has too many bytes or words, then refusal 15 if it
 // is broken. Reading refuses more words than there is room for before it looks for a broken codeword.
 fn list_stream(stream: &[u8], output: &mut [u8]) -> usize
-    requires { maxListing ≤ length output.old }
+    requires { max_listing ≤ length output.old }
     ensures { Wrote (listing stream.now) 0 output.old result output.new }
 {
     if MAX_STREAM < stream.len() {
@@ -105,7 +105,7 @@ fn list_stream(stream: &[u8], output: &mut [u8]) -> usize
 // Writes to the front of a slice what the program prints for a stream, and answers the number of
 // bytes. Refusal 5, where the slice is shorter than that, leaves it as it was.
 pub fn write_listing(stream: &[u8], output: &mut [u8]) -> Answer
-    ensures { (result ≡ listingAnswer stream.now output.old) × (output.new ≡ listingExit stream.now output.old) }
+    ensures { (result ≡ listing_answer stream.now output.old) × (output.new ≡ listing_exit stream.now output.old) }
 {
     let mut listing = [0u8; MAX_LISTING];
     let count = list_stream(stream, &mut listing);

@@ -4,8 +4,8 @@ use Rattle.std.specs.Prelude.{ℕ, ◌≤◌, ◌<◌, ◌≡◌, ◌↔◌, Boo
 use mathlib.Core.List.{List, [], ◌∷◌, ◌++◌, map, flatten, Memᴰ}
 use Rattle.base.specs.Lists.{total}
 use Rattle.base.specs.Answers.{front}
-use Rattle.pages.specs.Hits.{allHits}
-use Rattle.pages.specs.Pages.{pageOver}
+use Rattle.pages.specs.Hits.{all_hits}
+use Rattle.pages.specs.Pages.{page_over}
 
 -- what a call comes to: whether it is accepted, its value, whether it reports more, the state that it hands back, and what its slice
 -- holds on return
@@ -17,12 +17,12 @@ pub record Outcome (State : Type 0) : Type 0 where
   pub slice : List ℕ
 
 -- the hits of an accepted page: as many elements from the front of its slice as its value says
-abbrev pub hitsOn : {State : Type 0} → Outcome State → List ℕ
-hitsOn o = cond o.accepted (take o.value o.slice) []
+abbrev pub hits_on : {State : Type 0} → Outcome State → List ℕ
+hits_on o = cond o.accepted (take o.value o.slice) []
 
 -- the lines of an accepted page: the elements of its slice
-abbrev pub linesOn : {State : Type 0} → Outcome State → ℕ
-linesOn o = cond o.accepted (length o.slice) 0
+abbrev pub lines_on : {State : Type 0} → Outcome State → ℕ
+lines_on o = cond o.accepted (length o.slice) 0
 
 -- an accepted page reports the end if it does not report more
 pub record ReportsEnd {State : Type 0} (o : Outcome State) : Type 0 where
@@ -37,27 +37,27 @@ module _ {Call State : Type 0} (answer : Call → State → Outcome State) where
   outcomes state (call ∷ calls) = answer call state ∷ outcomes (answer call state).state calls
 
   -- the state that the last of the calls returned; the one handed to the first where there is none
-  unfoldable pub stateAfter : State → List Call → State
-  stateAfter state [] = state
-  stateAfter state (call ∷ calls) = stateAfter (answer call state).state calls
+  unfoldable pub state_after : State → List Call → State
+  state_after state [] = state
+  state_after state (call ∷ calls) = state_after (answer call state).state calls
 
   -- what a call comes to that comes after these calls
-  abbrev pub outcomeAfter : State → List Call → Call → Outcome State
-  outcomeAfter state before call = answer call (stateAfter state before)
+  abbrev pub outcome_after : State → List Call → Call → Outcome State
+  outcome_after state before call = answer call (state_after state before)
 
   -- the hits of the accepted pages, laid end to end in the order of the calls
   unfoldable pub found : State → List Call → List ℕ
-  found state calls = flatten (map hitsOn (outcomes state calls))
+  found state calls = flatten (map hits_on (outcomes state calls))
 
   -- how many lines those pages have together
-  unfoldable pub linesHad : State → List Call → ℕ
-  linesHad state calls = total (map linesOn (outcomes state calls))
+  unfoldable pub lines_had : State → List Call → ℕ
+  lines_had state calls = total (map lines_on (outcomes state calls))
 
   -- each call of a list that is accepted brings what it should
   abbrev pub AcceptedBring : (Call → Type 0) → State → List Call → Type 0
   AcceptedBring Brings state calls =
       (before : List Call) (call : Call) (after : List Call) → before ++ call ∷ after ≡ calls →
-      (outcomeAfter state before call).accepted ≡ true → Brings call
+      (outcome_after state before call).accepted ≡ true → Brings call
 
 -- a list of calls from an opening state is complete for the hits of P among the places 0 to the end; `next` is the next place of a
 -- state, `finished` whether it is finished, `lines` what the slice of a call holds, and `Brings` what every accepted call brings
@@ -65,58 +65,58 @@ pub record CompleteRun {Call State : Type 0} (answer : Call → State → Outcom
     (Brings : Call → Type 0) (P : ℕ → Bool) (end : ℕ) (opening : State) (calls : List Call)
     : Type 0 where
   -- found are the first hits, as many as the accepted pages have lines, or all hits if there are not so many
-  pub firstHits : found answer opening calls ≡ take (linesHad answer opening calls) (allHits P end)
+  pub first_hits : found answer opening calls ≡ take (lines_had answer opening calls) (all_hits P end)
   -- found are strictly ascending places, so none twice
   pub ascending :
       (i j : ℕ) → i < j → j < length (found answer opening calls) → get_or (found answer opening calls) i 0 < get_or (found answer opening calls) j 0
   -- nothing but hits is found
   pub sound : (q : ℕ) → Memᴰ q (found answer opening calls) → (q ≤ end) × (P q ≡ true)
   -- an accepted page reports the end exactly when, with it, every hit has been found
-  pub endReported :
+  pub end_reported :
       (before : List Call) (call : Call) (after : List Call) → before ++ call ∷ after ≡ calls →
-      (outcomeAfter answer opening before call).accepted ≡ true →
-      ((outcomeAfter answer opening before call).more ≡ false) ↔ (found answer opening (before ++ call ∷ []) ≡ allHits P end)
+      (outcome_after answer opening before call).accepted ≡ true →
+      ((outcome_after answer opening before call).more ≡ false) ↔ (found answer opening (before ++ call ∷ []) ≡ all_hits P end)
   -- if a page reports the end, the list of calls has found all hits, and so as many as there are
-  pub allFound :
+  pub all_found :
       (before : List Call) (call : Call) (after : List Call) → before ++ call ∷ after ≡ calls →
-      ReportsEnd (outcomeAfter answer opening before call) → found answer opening calls ≡ allHits P end
+      ReportsEnd (outcome_after answer opening before call) → found answer opening calls ≡ all_hits P end
   -- and each place is found at which P holds
-  pub noneMissed :
+  pub none_missed :
       (before : List Call) (call : Call) (after : List Call) → before ++ call ∷ after ≡ calls →
-      ReportsEnd (outcomeAfter answer opening before call) → (q : ℕ) → q ≤ end → P q ≡ true → Memᴰ q (found answer opening calls)
+      ReportsEnd (outcome_after answer opening before call) → (q : ℕ) → q ≤ end → P q ≡ true → Memᴰ q (found answer opening calls)
   -- the page that writes the last hit reports the end
-  pub lastWritten :
+  pub last_written :
       (before : List Call) (call : Call) (after : List Call) → before ++ call ∷ after ≡ calls →
-      (q : ℕ) → Memᴰ q (hitsOn (outcomeAfter answer opening before call)) → ((p : ℕ) → q < p → p ≤ end → P p ≡ false) →
-      ReportsEnd (outcomeAfter answer opening before call)
+      (q : ℕ) → Memᴰ q (hits_on (outcome_after answer opening before call)) → ((p : ℕ) → q < p → p ≤ end → P p ≡ false) →
+      ReportsEnd (outcome_after answer opening before call)
   -- where there is no hit, each accepted page reports the end, so the first one does
-  pub noHits :
+  pub no_hits :
       (before : List Call) (call : Call) (after : List Call) → before ++ call ∷ after ≡ calls →
-      (outcomeAfter answer opening before call).accepted ≡ true → ((p : ℕ) → p ≤ end → P p ≡ false) →
-      ReportsEnd (outcomeAfter answer opening before call)
+      (outcome_after answer opening before call).accepted ≡ true → ((p : ℕ) → p ≤ end → P p ≡ false) →
+      ReportsEnd (outcome_after answer opening before call)
   -- no call is handed a next place past the end, and none hands one back
   pub within :
-      (before : List Call) (call : Call) (after : List Call) → before ++ call ∷ after ≡ calls → next (stateAfter answer opening before) ≤ end
-  pub nextWithin :
-      (before : List Call) (call : Call) (after : List Call) → before ++ call ∷ after ≡ calls → next (outcomeAfter answer opening before call).state ≤ end
+      (before : List Call) (call : Call) (after : List Call) → before ++ call ∷ after ≡ calls → next (state_after answer opening before) ≤ end
+  pub next_within :
+      (before : List Call) (call : Call) (after : List Call) → before ++ call ∷ after ≡ calls → next (outcome_after answer opening before call).state ≤ end
   -- a page that reports the end hands back a finished state with its next place at the end
-  pub endState :
+  pub end_state :
       (before : List Call) (call : Call) (after : List Call) → before ++ call ∷ after ≡ calls →
-      ReportsEnd (outcomeAfter answer opening before call) →
-      (finished (outcomeAfter answer opening before call).state ≡ true) × (next (outcomeAfter answer opening before call).state ≡ end)
+      ReportsEnd (outcome_after answer opening before call) →
+      (finished (outcome_after answer opening before call).state ≡ true) × (next (outcome_after answer opening before call).state ≡ end)
   -- each call is accepted that brings what it should and a page of one line or more
-  pub pageAccepted :
+  pub page_accepted :
       (before : List Call) (call : Call) (after : List Call) → before ++ call ∷ after ≡ calls →
-      Brings call → 1 ≤ length (lines call) → (outcomeAfter answer opening before call).accepted ≡ true
+      Brings call → 1 ≤ length (lines call) → (outcome_after answer opening before call).accepted ≡ true
 
 -- an outcome is that of a page over a state: one line or more, and value, more, next place, finished and slice are the page's
 pub record IsPage {State : Type 0} (next : State → ℕ) (finished : State → Bool) (P : ℕ → Bool) (end : ℕ) (slice : List ℕ) (state : State) (o : Outcome State) : Type 0 where
-  pub someLine : 1 ≤ length slice
-  pub valueIs : o.value ≡ length (pageOver P end (length slice) (next state) (finished state)).found
-  pub moreIs : o.more ≡ (pageOver P end (length slice) (next state) (finished state)).more
-  pub nextIs : next o.state ≡ (pageOver P end (length slice) (next state) (finished state)).next
-  pub finishedIs : finished o.state ≡ (pageOver P end (length slice) (next state) (finished state)).finished
-  pub sliceIs : o.slice ≡ front (pageOver P end (length slice) (next state) (finished state)).found slice
+  pub some_line : 1 ≤ length slice
+  pub value_is : o.value ≡ length (page_over P end (length slice) (next state) (finished state)).found
+  pub more_is : o.more ≡ (page_over P end (length slice) (next state) (finished state)).more
+  pub next_is : next o.state ≡ (page_over P end (length slice) (next state) (finished state)).next
+  pub finished_is : finished o.state ≡ (page_over P end (length slice) (next state) (finished state)).finished
+  pub slice_is : o.slice ≡ front (page_over P end (length slice) (next state) (finished state)).found slice
 
 -- what a listing has to show of one call; `Kept` is what an accepted call keeps of the state
 pub record IsListing {Call State : Type 0} (answer : Call → State → Outcome State) (next : State → ℕ) (finished : State → Bool) (lines : Call → List ℕ)

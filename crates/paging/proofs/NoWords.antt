@@ -4,21 +4,21 @@ use mathlib.Core.Path.{◌≡◌, refl, sym, ap, ◌∙◌}
 use mathlib.Core.Bool.{false}
 use mathlib.Core.List.{List}
 use lib.ListN.{length}
-use Rattle.base.proofs.Ranges.{filter-range-all}
+use Rattle.base.proofs.Ranges.{filter_range_all}
 use Rattle.phrases.specs.Phrases.{stands}
-use Rattle.base.proofs.Filters.{filter-range-same}
-use Rattle.documents.specs.Documents.{standsIn}
+use Rattle.base.proofs.Filters.{filter_range_same}
+use Rattle.documents.specs.Documents.{stands_in}
 use Rattle.documents.proofs.Inside.{none_in}
 use Rattle.phrases.proofs.NoWords.{none_from}
-use Rattle.pages.specs.Pages.{pageOver}
-use Rattle.pages.proofs.Pages.{page-by-hits}
-use Rattle.paging.specs.Places.{everyPlace}
+use Rattle.pages.specs.Pages.{page_over}
+use Rattle.pages.proofs.Pages.{page_by_hits}
+use Rattle.paging.specs.Places.{every_place}
 
 -- of a text of n words, whatever its documents
-pub none-page : (documents t ws : List ℕ) (n lines next : ℕ) → length ws ≡ 0 → n ≡ length t
-    → pageOver everyPlace n lines next false ≡ pageOver (standsIn documents t ws) (length t) lines next false
-none-page documents t ws n lines next none e =
-    ap (λ (k : ℕ). pageOver everyPlace k lines next false) e
-    ∙ page-by-hits everyPlace (standsIn documents t ws) (length t) lines next next
-    (filter-range-all everyPlace next (suc (length t) - next) (λ q l u. refl)
-    ∙ sym (filter-range-same (standsIn documents t ws) (stands t ws) next (suc (length t) - next) (λ q l u. none_in documents t ws none q) ∙ none_from t ws none next))
+pub none_page : (documents t ws : List ℕ) (n lines next : ℕ) → length ws ≡ 0 → n ≡ length t
+    → page_over every_place n lines next false ≡ page_over (stands_in documents t ws) (length t) lines next false
+none_page documents t ws n lines next none e =
+    ap (λ (k : ℕ). page_over every_place k lines next false) e
+    ∙ page_by_hits every_place (stands_in documents t ws) (length t) lines next next
+    (filter_range_all every_place next (suc (length t) - next) (λ q l u. refl)
+    ∙ sym (filter_range_same (stands_in documents t ws) (stands t ws) next (suc (length t) - next) (λ q l u. none_in documents t ws none q) ∙ none_from t ws none next))

@@ -9,8 +9,8 @@ abbrev pub written_of : HitPage → Written
 written_of p = record { count = length p.found; more = p.more; next = record { 0 = p.next }; finished = p.finished }
 
 -- a full page with another hit after it, and a page after which hits have run out in a text of n words
-abbrev pub fullAt : ℕ → Place → Written
-fullAt count last = record { count = count; more = true; next = record { 0 = last.0 + 1 }; finished = false }
+abbrev pub full_at : ℕ → Place → Written
+full_at count last = record { count = count; more = true; next = record { 0 = last.0 + 1 }; finished = false }
 
-abbrev pub endedAt : ℕ → ℕ → Written
-endedAt count n = record { count = count; more = false; next = record { 0 = n }; finished = true }
+abbrev pub ended_at : ℕ → ℕ → Written
+ended_at count n = record { count = count; more = false; next = record { 0 = n }; finished = true }

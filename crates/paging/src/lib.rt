@@ -5,15 +5,15 @@
 // have passed the check, and `starts` is the table that `starts::node_starts` fills.
 ghost use Rattle.std.specs.Prelude.{◌≡◌, true, false, ◌≤◌, length};
 ghost use Rattle.base.specs.Lists.{Below};
-ghost use Rattle.base.specs.Texts.{maxWords, maxPhrase};
+ghost use Rattle.base.specs.Texts.{max_words, max_phrase};
 ghost use Rattle.base.specs.Answers.{front};
-ghost use Rattle.index.specs.Arrays.{Arrays, arrays, textIn};
+ghost use Rattle.index.specs.Arrays.{Arrays, arrays, text_in};
 ghost use Rattle.words.specs.Ready.{Checked};
-ghost use Rattle.documents.specs.Documents.{isAscending, standsIn};
-ghost use Rattle.pages.specs.Pages.{pageOver};
+ghost use Rattle.documents.specs.Documents.{is_ascending, stands_in};
+ghost use Rattle.pages.specs.Pages.{page_over};
 ghost use Rattle.matching.specs.Searching.{Searching};
-ghost use Rattle.paging.specs.Places.{everyPlace};
-ghost use Rattle.paging.specs.Written.{written_of, fullAt, endedAt};
+ghost use Rattle.paging.specs.Places.{every_place};
+ghost use Rattle.paging.specs.Written.{written_of, full_at, ended_at};
 
 use hits::Hit;
 use index::Shape;
@@ -32,8 +32,8 @@ pub struct Written {
 impl Written {
     // A full page after which another hit follows: the next place is the last hit plus 1.
     fn full(count: usize, last: Place) -> Written
-        requires { last.0 ≤ maxWords }
-        ensures { result ≡ fullAt count last }
+        requires { last.0 ≤ max_words }
+        ensures { result ≡ full_at count last }
     {
         let next = Place(last.0 + 1);
         Written {
@@ -46,7 +46,7 @@ impl Written {
 
     // A page after which the hits of a text of n words have run out.
     fn ended(count: usize, n: usize) -> Written
-        ensures { result ≡ endedAt count n }
+        ensures { result ≡ ended_at count n }
     {
         Written {
             count,
@@ -76,9 +76,9 @@ fn fill_page(
 ) -> Written
     ghost a: { Arrays }
     requires blocks_value { arrays lengths.now bytes.now superblocks.now blocks.now ≡ a }
-    requires searching { Searching s shape a starts.now firsts.now words.now × (next.0 ≤ length (textIn s a)) × (isAscending documents.now ≡ true) }
-    ensures { (result ≡ written_of (pageOver (standsIn documents.now (textIn s a) words.now) (length (textIn s a)) (length lines.old) next.0 false))
-        × (lines.new ≡ front (pageOver (standsIn documents.now (textIn s a) words.now) (length (textIn s a)) (length lines.old) next.0 false).found lines.old) }
+    requires searching { Searching s shape a starts.now firsts.now words.now × (next.0 ≤ length (text_in s a)) × (is_ascending documents.now ≡ true) }
+    ensures { (result ≡ written_of (page_over (stands_in documents.now (text_in s a) words.now) (length (text_in s a)) (length lines.old) next.0 false))
+        × (lines.new ≡ front (page_over (stands_in documents.now (text_in s a) words.now) (length (text_in s a)) (length lines.old) next.0 false).found lines.old) }
 {
     let n = words::text_length(lengths);
     let end = Place(n + 1);
@@ -130,9 +130,9 @@ fn fill_page(
 // Writes the places from one on, up to an end and with it, to the front of a slice, until it is full
 // or they run out.
 fn write_places(from: Place, end: Place, lines: &mut [u32]) -> Written
-    requires { (from.0 ≤ end.0) × (end.0 ≤ maxWords) }
-    ensures { (result ≡ written_of (pageOver everyPlace end.0 (length lines.old) from.0 false))
-        × (lines.new ≡ front (pageOver everyPlace end.0 (length lines.old) from.0 false).found lines.old) }
+    requires { (from.0 ≤ end.0) × (end.0 ≤ max_words) }
+    ensures { (result ≡ written_of (page_over every_place end.0 (length lines.old) from.0 false))
+        × (lines.new ≡ front (page_over every_place end.0 (length lines.old) from.0 false).found lines.old) }
 {
     let mut count: usize = 0;
     let mut last = Place(0);
@@ -166,9 +166,9 @@ pub fn write_page(
 ) -> Written
     ghost a: { Arrays }
     requires blocks_value { arrays lengths.now bytes.now superblocks.now blocks.now ≡ a }
-    requires checked { Checked s shape a × (length words.now ≤ maxPhrase) × Below shape.vocabulary words.now × (next.0 ≤ length (textIn s a)) × (isAscending documents.now ≡ true) }
-    ensures { (result ≡ written_of (pageOver (standsIn documents.now (textIn s a) words.now) (length (textIn s a)) (length lines.old) next.0 false))
-        × (lines.new ≡ front (pageOver (standsIn documents.now (textIn s a) words.now) (length (textIn s a)) (length lines.old) next.0 false).found lines.old) }
+    requires checked { Checked s shape a × (length words.now ≤ max_phrase) × Below shape.vocabulary words.now × (next.0 ≤ length (text_in s a)) × (is_ascending documents.now ≡ true) }
+    ensures { (result ≡ written_of (page_over (stands_in documents.now (text_in s a) words.now) (length (text_in s a)) (length lines.old) next.0 false))
+        × (lines.new ≡ front (page_over (stands_in documents.now (text_in s a) words.now) (length (text_in s a)) (length lines.old) next.0 false).found lines.old) }
 {
     let m = words.len();
     if m == 0 {

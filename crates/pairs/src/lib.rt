@@ -2,14 +2,14 @@
 // slice of the same length. A search of a phrase looks for hits by them: a byte at a position and
 // another at a fixed distance from it.
 ghost use Rattle.std.specs.Prelude.{◌≡◌, true, ◌≤◌, length};
-ghost use Rattle.pairs.specs.Pairs.{firstPair};
+ghost use Rattle.pairs.specs.Pairs.{first_pair};
 
 // The first index at which x stands in one of two short slices and y in the other, their length where
 // there is none. The most bytes that are left at a pair are those at the first; no turn of the loop
 // leaves it, and both bytes are compared before any test, so that many are compared at once.
 fn first_few(here: &[u8], there: &[u8], x: u8, y: u8) -> u8
     requires { (length here.now ≡ length there.now) × (length here.now ≤ 255) }
-    ensures { result ≡ firstPair x y here.now there.now }
+    ensures { result ≡ first_pair x y here.now there.now }
 {
     let count = here.len() as u8;
     let mut most: u8 = 0;
@@ -35,7 +35,7 @@ fn first_few(here: &[u8], there: &[u8], x: u8, y: u8) -> u8
 // is none: in pieces of 128 bytes, and what is left after them.
 fn first_pair(here: &[u8], there: &[u8], x: u8, y: u8) -> usize
     requires { length here.now ≡ length there.now }
-    ensures { result ≡ firstPair x y here.now there.now }
+    ensures { result ≡ first_pair x y here.now there.now }
 {
     let mut i = 0;
     while 128 <= here.len() - i {
@@ -54,7 +54,7 @@ fn first_pair(here: &[u8], there: &[u8], x: u8, y: u8) -> usize
 // the byte, and no byte past it is read.
 pub fn next_pair(here: &[u8], there: &[u8], x: u8, y: u8, same: bool) -> usize
     requires { (length here.now ≡ length there.now) × (same ≡ true → (here.now ≡ there.now) × (x ≡ y)) }
-    ensures { result ≡ firstPair x y here.now there.now }
+    ensures { result ≡ first_pair x y here.now there.now }
 {
     if same {
         return block_scan::next_of(here, x);

@@ -3,7 +3,7 @@
 // No function of this crate is an entry: it requires that the four slices have passed the check, and
 // `starts` is the table that `starts::node_starts` fills.
 ghost use Rattle.std.specs.Prelude.{◌≡◌, ◌+◌, ◌≤◌, length, take, drop};
-ghost use Rattle.index.specs.Arrays.{Arrays, arrays, textIn};
+ghost use Rattle.index.specs.Arrays.{Arrays, arrays, text_in};
 ghost use Rattle.words.specs.Ready.{Ready};
 
 use index::Shape;
@@ -23,8 +23,8 @@ pub fn read_passage(
 )
     ghost a: { Arrays }
     requires blocks_value { arrays lengths.now bytes.now superblocks.now blocks.now ≡ a }
-    requires ready { Ready s shape a starts.now × (place.0 + length ranks.old ≤ length (textIn s a)) }
-    ensures { ranks.new ≡ take (length ranks.old) (drop place.0 (textIn s a)) }
+    requires ready { Ready s shape a starts.now × (place.0 + length ranks.old ≤ length (text_in s a)) }
+    ensures { ranks.new ≡ take (length ranks.old) (drop place.0 (text_in s a)) }
 {
     let mut i: usize = 0;
     while i < ranks.len() {

@@ -6,57 +6,57 @@ use mathlib.Core.List.{List, [], ◌∷◌}
 use borrow.Author.Tests.{lt-ltb, le-ltb, ltb-false, eq-eqb}
 use lib.Dec.{ltb}
 use lib.ListN.{length}
-use Rattle.base.proofs.Answers.{first-here, first-later, none-holds, answers}
+use Rattle.base.proofs.Answers.{first_here, first_later, none_holds, answers}
 use Rattle.base.specs.Answers.{accepted, refused, Case, NoneHolds, ◌⇒◌, first_of}
-use Rattle.base.specs.Refusals.{refusalVocabulary, refusalWords, refusalShortSlice}
-use Rattle.base.specs.Texts.{maxWords, outside, wordsCase}
+use Rattle.base.specs.Refusals.{refusal_vocabulary, refusal_words, refusal_short_slice}
+use Rattle.base.specs.Texts.{max_words, outside, words_case}
 use Rattle.base.specs.declared.Answer.{Answer}
-use Rattle.dense.specs.Code.{vocabularyCase, maxVocabulary}
-use Rattle.lexicon.specs.Lexicon.{listSize}
-use Rattle.lexicon.specs.Reading.{textWords, readTextAnswer}
-use Rattle.plain_text.specs.Sizes.{sizesAnswer}
+use Rattle.dense.specs.Code.{vocabulary_case, max_vocabulary}
+use Rattle.lexicon.specs.Lexicon.{list_size}
+use Rattle.lexicon.specs.Reading.{text_words, read_text_answer}
+use Rattle.plain_text.specs.Sizes.{sizes_answer}
 
 -- the refusals in their order, and none
 module _ (words size room : ℕ) where
-  pub sizes-vocabulary : outside 1 (maxVocabulary 128) words ≡ true → sizesAnswer words size room ≡ refused refusalVocabulary
-  unfolding sizesAnswer vocabularyCase
-  sizes-vocabulary e = first-here _ _ _ _ e
+  pub sizes_vocabulary : outside 1 (max_vocabulary 128) words ≡ true → sizes_answer words size room ≡ refused refusal_vocabulary
+  unfolding sizes_answer vocabulary_case
+  sizes_vocabulary e = first_here _ _ _ _ e
 
-  module _ (vocabulary : outside 1 (maxVocabulary 128) words ≡ false) where
-    pub sizes-words : maxWords < size → sizesAnswer words size room ≡ refused refusalWords
-    unfolding sizesAnswer vocabularyCase wordsCase
-    sizes-words h = first-later _ _ _ _ vocabulary ∙ first-here _ _ _ _ (lt-ltb maxWords size h)
+  module _ (vocabulary : outside 1 (max_vocabulary 128) words ≡ false) where
+    pub sizes_words : max_words < size → sizes_answer words size room ≡ refused refusal_words
+    unfolding sizes_answer vocabulary_case words_case
+    sizes_words h = first_later _ _ _ _ vocabulary ∙ first_here _ _ _ _ (lt-ltb max_words size h)
 
-    pub sizes-short : size ≤ maxWords → room < size → sizesAnswer words size room ≡ refused refusalShortSlice
-    unfolding sizesAnswer vocabularyCase wordsCase
-    sizes-short l h = first-later _ _ _ _ vocabulary ∙ first-later _ _ _ _ (le-ltb maxWords size l) ∙ first-here _ _ _ _ (lt-ltb room size h)
+    pub sizes_short : size ≤ max_words → room < size → sizes_answer words size room ≡ refused refusal_short_slice
+    unfolding sizes_answer vocabulary_case words_case
+    sizes_short l h = first_later _ _ _ _ vocabulary ∙ first_later _ _ _ _ (le-ltb max_words size l) ∙ first_here _ _ _ _ (lt-ltb room size h)
 
-    pub sizes-none : size ≤ maxWords → size ≤ room → sizesAnswer words size room ≡ accepted size
-    unfolding sizesAnswer vocabularyCase wordsCase
-    sizes-none l h = first-later _ _ _ _ vocabulary ∙ first-later _ _ _ _ (le-ltb maxWords size l) ∙ first-later _ _ _ _ (le-ltb room size h) ∙ answers [] _ tt
+    pub sizes_none : size ≤ max_words → size ≤ room → sizes_answer words size room ≡ accepted size
+    unfolding sizes_answer vocabulary_case words_case
+    sizes_none l h = first_later _ _ _ _ vocabulary ∙ first_later _ _ _ _ (le-ltb max_words size l) ∙ first_later _ _ _ _ (le-ltb room size h) ∙ answers [] _ tt
 
   -- where none refuses, the sizes are within their limits
-  pub sizes-inside : (sizesAnswer words size room).refusal ≡ 0
-      → (outside 1 (maxVocabulary 128) words ≡ false) × (size ≤ maxWords) × (size ≤ room) × (sizesAnswer words size room ≡ accepted size)
-  unfolding sizesAnswer vocabularyCase wordsCase
-  sizes-inside e =
-      let cases : List Case = vocabularyCase 128 words ∷ wordsCase size ∷ (ltb room size ⇒ refused refusalShortSlice) ∷ [] in
-      let n : NoneHolds cases = none-holds cases (accepted size) (refl, (refl, (refl, tt))) (eq-eqb (sizesAnswer words size room).refusal 0 e) in
-      (n.0, ltb-false maxWords size n.1.0, ltb-false room size n.1.1.0, answers cases (accepted size) n)
+  pub sizes_inside : (sizes_answer words size room).refusal ≡ 0
+      → (outside 1 (max_vocabulary 128) words ≡ false) × (size ≤ max_words) × (size ≤ room) × (sizes_answer words size room ≡ accepted size)
+  unfolding sizes_answer vocabulary_case words_case
+  sizes_inside e =
+      let cases : List Case = vocabulary_case 128 words ∷ words_case size ∷ (ltb room size ⇒ refused refusal_short_slice) ∷ [] in
+      let n : NoneHolds cases = none_holds cases (accepted size) (refl, (refl, (refl, tt))) (eq-eqb (sizes_answer words size room).refusal 0 e) in
+      (n.0, ltb-false max_words size n.1.0, ltb-false room size n.1.1.0, answers cases (accepted size) n)
 
 -- a first refusal of three is the first of five
-first-of-three : (t₁ t₂ t₃ : Bool) (c d : Case) (a : Answer) (n : ℕ)
-    → ((first_of ((t₁ ⇒ refused refusalVocabulary) ∷ (t₂ ⇒ refused refusalWords) ∷ (t₃ ⇒ refused refusalShortSlice) ∷ []) (accepted n)).refusal ≡ 0 → ⊥)
-    → first_of ((t₁ ⇒ refused refusalVocabulary) ∷ (t₂ ⇒ refused refusalWords) ∷ (t₃ ⇒ refused refusalShortSlice) ∷ c ∷ d ∷ []) a
-    ≡ first_of ((t₁ ⇒ refused refusalVocabulary) ∷ (t₂ ⇒ refused refusalWords) ∷ (t₃ ⇒ refused refusalShortSlice) ∷ []) (accepted n)
+first_of_three_lem : (t₁ t₂ t₃ : Bool) (c d : Case) (a : Answer) (n : ℕ)
+    → ((first_of ((t₁ ⇒ refused refusal_vocabulary) ∷ (t₂ ⇒ refused refusal_words) ∷ (t₃ ⇒ refused refusal_short_slice) ∷ []) (accepted n)).refusal ≡ 0 → ⊥)
+    → first_of ((t₁ ⇒ refused refusal_vocabulary) ∷ (t₂ ⇒ refused refusal_words) ∷ (t₃ ⇒ refused refusal_short_slice) ∷ c ∷ d ∷ []) a
+    ≡ first_of ((t₁ ⇒ refused refusal_vocabulary) ∷ (t₂ ⇒ refused refusal_words) ∷ (t₃ ⇒ refused refusal_short_slice) ∷ []) (accepted n)
 unfolding first_of
-first-of-three true t₂ t₃ c d a n h = refl
-first-of-three false true t₃ c d a n h = refl
-first-of-three false false true c d a n h = refl
-first-of-three false false false c d a n h = absurd (h refl)
+first_of_three_lem true t₂ t₃ c d a n h = refl
+first_of_three_lem false true t₃ c d a n h = refl
+first_of_three_lem false false true c d a n h = refl
+first_of_three_lem false false false c d a n h = absurd (h refl)
 
 -- a call that the tests of the sizes refuse has their answer
-pub sizes-first : (table list text z : List ℕ) → ((sizesAnswer (listSize list) (length (textWords table text)) (length z)).refusal ≡ 0 → ⊥)
-    → readTextAnswer table list text z ≡ sizesAnswer (listSize list) (length (textWords table text)) (length z)
-unfolding readTextAnswer sizesAnswer vocabularyCase wordsCase
-sizes-first table list text z h = first-of-three _ _ _ _ _ _ _ h
+pub sizes_first : (table list text z : List ℕ) → ((sizes_answer (list_size list) (length (text_words table text)) (length z)).refusal ≡ 0 → ⊥)
+    → read_text_answer table list text z ≡ sizes_answer (list_size list) (length (text_words table text)) (length z)
+unfolding read_text_answer sizes_answer vocabulary_case words_case
+sizes_first table list text z h = first_of_three_lem _ _ _ _ _ _ _ h

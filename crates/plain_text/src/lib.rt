@@ -1,17 +1,17 @@
 // Plain text through a word list: the entry `read_text`, and the same with any table that keeps the
 // rule.
 ghost use Rattle.std.specs.Prelude.{◌≡◌, true, length};
-ghost use Rattle.lexicon.specs.Letters.{letters as lettersOf, isTable};
-ghost use Rattle.lexicon.specs.Reading.{textWords, readTextAnswer, readTextExit};
-ghost use Rattle.plain_text.specs.Sizes.{sizesAnswer, Sized};
+ghost use Rattle.lexicon.specs.Letters.{letters as lettersOf, is_table};
+ghost use Rattle.lexicon.specs.Reading.{text_words, read_text_answer, read_text_exit};
+ghost use Rattle.plain_text.specs.Sizes.{sizes_answer, Sized};
 
 use base::{Answer, refusal};
 
 // The answer of the tests of the sizes, of a list of so many words, of a text, and of a slice of so
 // many elements: the number of words of the text where none refuses.
 fn sizes_answer(table: &[u8], words: usize, text: &[u8], room: usize) -> Answer
-    requires { isTable table.now ≡ true }
-    ensures { result ≡ sizesAnswer words (length (textWords table.now text.now)) room }
+    requires { is_table table.now ≡ true }
+    ensures { result ≡ sizes_answer words (length (text_words table.now text.now)) room }
 {
     if words < 1 {
         return Answer::refused(refusal::VOCABULARY);
@@ -40,7 +40,7 @@ fn read_by_written(
     ranks: &mut [u32],
 ) -> Answer
     requires { Sized table.now list.now words text.now size ranks.old }
-    ensures { (result ≡ readTextAnswer table.now list.now text.now ranks.old) × (ranks.new ≡ readTextExit table.now list.now text.now ranks.old) }
+    ensures { (result ≡ read_text_answer table.now list.now text.now ranks.old) × (ranks.new ≡ read_text_exit table.now list.now text.now ranks.old) }
 {
     let mut heads = [0u32; 65536];
     let mut links = [0u32; hashing::MAX_PART];
@@ -78,8 +78,8 @@ fn read_by_written(
 // Reads a plain text through a word list with a table that keeps the rules: the answer and the slice
 // are those of paper 01.
 pub fn read_text_by(table: &[u8], list: &[u8], text: &[u8], ranks: &mut [u32]) -> Answer
-    requires { isTable table.now ≡ true }
-    ensures { (result ≡ readTextAnswer table.now list.now text.now ranks.old) × (ranks.new ≡ readTextExit table.now list.now text.now ranks.old) }
+    requires { is_table table.now ≡ true }
+    ensures { (result ≡ read_text_answer table.now list.now text.now ranks.old) × (ranks.new ≡ read_text_exit table.now list.now text.now ranks.old) }
 {
     let words = list_rules::list_size(list);
     let room = ranks.len();
@@ -97,7 +97,7 @@ pub fn read_text_by(table: &[u8], list: &[u8], text: &[u8], ranks: &mut [u32]) -
 // the letter table. It answers the number of words. Refusals 1, 2, 5, 13, and 14 with the byte
 // offset of the first word that is not in the list, leave the slice as it was.
 pub fn read_text(list: &[u8], text: &[u8], ranks: &mut [u32]) -> Answer
-    ensures { (result ≡ readTextAnswer lettersOf list.now text.now ranks.old) × (ranks.new ≡ readTextExit lettersOf list.now text.now ranks.old) }
+    ensures { (result ≡ read_text_answer lettersOf list.now text.now ranks.old) × (ranks.new ≡ read_text_exit lettersOf list.now text.now ranks.old) }
 {
     read_text_by(&lexicon::LETTERS, list, text, ranks)
 }

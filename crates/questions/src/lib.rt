@@ -1,7 +1,7 @@
 // Questions about the text of an index: the question record, with a maker a kind. What is answered,
 // and the passage that is read, is defined in `specs/`; the laws of the answers are in `proofs/`.
 ghost use Rattle.std.specs.Prelude.{◌≡◌};
-ghost use Rattle.questions.specs.Makers.{asksWordAt, asksOccurrencesBelow, asksPlaceOf, asksNeighbours, asksPhrase};
+ghost use Rattle.questions.specs.Makers.{asks_word_at, asks_occurrences_below, asks_place_of, asks_neighbours, asks_phrase};
 
 // A question: its kind, ranks w and v, offset d, number p, and a part of the lent phrase words.
 #[repr(C)]
@@ -25,7 +25,7 @@ impl Question {
 
     // Kind 1: the rank at place p.
     pub fn word_at(p: usize) -> Question
-        ensures { result ≡ asksWordAt p }
+        ensures { result ≡ asks_word_at p }
     {
         Question {
             kind: 1,
@@ -40,7 +40,7 @@ impl Question {
 
     // Kind 2: how often w stands at places below p.
     pub fn occurrences_below(w: u32, p: usize) -> Question
-        ensures { result ≡ asksOccurrencesBelow w p }
+        ensures { result ≡ asks_occurrences_below w p }
     {
         Question {
             kind: 2,
@@ -55,7 +55,7 @@ impl Question {
 
     // Kind 3: the place of the p-th w, counted from 1.
     pub fn place_of(w: u32, p: usize) -> Question
-        ensures { result ≡ asksPlaceOf w p }
+        ensures { result ≡ asks_place_of w p }
     {
         Question {
             kind: 3,
@@ -70,7 +70,7 @@ impl Question {
 
     // Kind 4: how often w has v at the offset d.
     pub fn neighbours(w: u32, v: u32, d: i32) -> Question
-        ensures { result ≡ asksNeighbours w v d }
+        ensures { result ≡ asks_neighbours w v d }
     {
         Question {
             kind: 4,
@@ -85,7 +85,7 @@ impl Question {
 
     // Kind 5: how often the phrase in this part of the lent words stands.
     pub fn phrase(start: usize, length: usize) -> Question
-        ensures { result ≡ asksPhrase start length }
+        ensures { result ≡ asks_phrase start length }
     {
         Question {
             kind: 5,

@@ -1,10 +1,10 @@
 // The ranks of the words of a text, all of them in a word list, looked up part by part.
 ghost use Rattle.std.specs.Prelude.{◌≡◌, true, cond, ◌+◌, ◌-◌, ◌≤◌, ◌<◌, ltb, length, set};
 ghost use Rattle.base.specs.Answers.{front};
-ghost use Rattle.lexicon.specs.Letters.{isTable};
-ghost use Rattle.lexicon.specs.Reading.{textWords, spellings};
+ghost use Rattle.lexicon.specs.Letters.{is_table};
+ghost use Rattle.lexicon.specs.Reading.{text_words, spellings};
 ghost use Rattle.hashing.specs.HashTables.{Room, HashTable};
-ghost use Rattle.ranking.specs.Ranks.{ranksIn, Ranked, Rankable};
+ghost use Rattle.ranking.specs.Ranks.{ranks_in, Ranked, Rankable};
 
 // Writes the rank of a word that was found at its place; one that was not stays.
 fn put_rank(ranks: &mut [u32], place: usize, first: usize, found: usize)
@@ -31,8 +31,8 @@ fn write_found(
     size: usize,
     ranks: &mut [u32],
 )
-    requires { (isTable table.now ≡ true) × HashTable table.now list.now from count heads.now links.now starts.now × (first + count ≤ 4294967295) × (size ≡ length (textWords table.now text.now)) × (size ≤ length ranks.old) }
-    ensures { Ranked table.now list.now from count first (textWords table.now text.now) ranks.old ranks.new }
+    requires { (is_table table.now ≡ true) × HashTable table.now list.now from count heads.now links.now starts.now × (first + count ≤ 4294967295) × (size ≡ length (text_words table.now text.now)) × (size ≤ length ranks.old) }
+    ensures { Ranked table.now list.now from count first (text_words table.now text.now) ranks.old ranks.new }
 {
     let mut at = scanning::word_start(table, text, 0);
     let mut place: usize = 0;
@@ -63,7 +63,7 @@ pub fn write_ranks(
     ranks: &mut [u32],
 )
     requires { Rankable table.now list.now words text.now size × (size ≤ length ranks.old) × Room heads.old links.old starts.old }
-    ensures { ranks.new ≡ front (ranksIn (spellings table.now list.now) (textWords table.now text.now)) ranks.old }
+    ensures { ranks.new ≡ front (ranks_in (spellings table.now list.now) (text_words table.now text.now)) ranks.old }
 {
     let mut from = scanning::word_start(table, list, 0);
     let mut first: usize = 0;

@@ -3,29 +3,29 @@ use mathlib.Core.Path.{refl}
 use Rattle.base.specs.Answers.{first_of}
 use Rattle.base.specs.Texts.{outside}
 use Rattle.phrases.specs.Phrases.{agrees, stands}
-use Rattle.phrases.specs.Neighbours.{standsAt, neighbourAt}
-use Rattle.documents.specs.Documents.{documentOf, sameDocument, inOneDocument, standsIn, placesIn, neighbourIn, neighboursIn, countInDocument, countsByDocument}
-use Rattle.questions.specs.Answering.{rankAskedCase, hasAbsent, phraseIn, phraseCases, occurrencesAnswer, placeAnswer, neighboursAnswer, phraseAnswer}
+use Rattle.phrases.specs.Neighbours.{stands_at, neighbour_at}
+use Rattle.documents.specs.Documents.{document_of, same_document, in_one_document, stands_in, places_in, neighbour_in, neighbours_in, count_in_document, counts_by_document}
+use Rattle.questions.specs.Answering.{rank_asked_case, has_absent, phrase_in, phrase_cases, occurrences_answer, place_answer, neighbours_answer, phrase_answer}
 use Rattle.samples.specs.Absent.{AbsentSamples}
 
-pub absent-samples : AbsentSamples
-unfolding first_of outside agrees stands standsAt neighbourAt documentOf sameDocument inOneDocument standsIn placesIn neighbourIn neighboursIn countInDocument countsByDocument rankAskedCase hasAbsent phraseIn phraseCases occurrencesAnswer placeAnswer neighboursAnswer phraseAnswer
-absent-samples =
+pub absent_samples : AbsentSamples
+unfolding first_of outside agrees stands stands_at neighbour_at document_of same_document in_one_document stands_in places_in neighbour_in neighbours_in count_in_document counts_by_document rank_asked_case has_absent phrase_in phrase_cases occurrences_answer place_answer neighbours_answer phrase_answer
+absent_samples =
     record {
       below = refl;
       above = refl;
       place = refl;
-      placeAbove = refl;
+      place_above = refl;
       neighbour = refl;
       mirrored = refl;
       itself = refl;
       far = refl;
-      farLeft = refl;
-      neighbourAbove = refl;
+      far_left = refl;
+      neighbour_above = refl;
       phrase = refl;
-      phraseOne = refl;
-      phraseThere = refl;
-      phraseAbove = refl;
+      phrase_one = refl;
+      phrase_there = refl;
+      phrase_above = refl;
       which = refl;
-      inDocuments = refl;
+      in_documents = refl;
     }

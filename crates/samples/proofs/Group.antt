@@ -2,34 +2,34 @@
 use mathlib.Core.Path.{refl}
 use mathlib.Core.List.{flatten}
 use Rattle.base.specs.Answers.{first_of}
-use Rattle.base.specs.Texts.{outside, ranksBelow, isText}
-use Rattle.dense.specs.Code.{vocabularyCase, code}
-use Rattle.dense.specs.Streams.{stream, codewords, streamText}
-use Rattle.dense.proofs.Samples.{published-codes}
-use Rattle.directory.specs.Counters.{row, superblockRow, block_row, superblockRows, blockRows, blocksCase}
-use Rattle.tree.specs.Nodes.{path, reach, nodeBytes, nodes}
+use Rattle.base.specs.Texts.{outside, ranks_below, is_text}
+use Rattle.dense.specs.Code.{vocabulary_case, code}
+use Rattle.dense.specs.Streams.{stream, codewords, stream_text}
+use Rattle.dense.proofs.Samples.{published_codes}
+use Rattle.directory.specs.Counters.{row, superblock_row, block_row, superblock_rows, block_rows, blocks_case}
+use Rattle.tree.specs.Nodes.{path, reach, node_bytes, nodes}
 use Rattle.tree.specs.Walks.{text_of}
-use Rattle.index.specs.Arrays.{bytes_of, lengthsOf, index_of, textIn, sameArrays, passes}
-use Rattle.index.specs.Entries.{indexCases}
+use Rattle.index.specs.Arrays.{bytes_of, lengths_of, index_of, text_in, same_arrays, passes}
+use Rattle.index.specs.Entries.{index_cases}
 use Rattle.phrases.specs.Phrases.{agrees, stands, places}
-use Rattle.phrases.specs.Neighbours.{standsAt, neighbourAt}
-use Rattle.documents.specs.Documents.{isAscending, areStarts, documentsCase, documentOf, sameDocument, inOneDocument, standsIn, placesIn, neighbourIn, neighboursIn}
-use Rattle.questions.specs.Answering.{readingCases, rankAskedCase, phraseIn, phraseCases, occurrencesAnswer, placeAnswer, neighboursAnswer, phraseAnswer, questionAnswer, askAnswerIn, askAnswer}
-use Rattle.samples.specs.Group.{sampleIndex, SampleGroup}
+use Rattle.phrases.specs.Neighbours.{stands_at, neighbour_at}
+use Rattle.documents.specs.Documents.{is_ascending, are_starts, documents_case, document_of, same_document, in_one_document, stands_in, places_in, neighbour_in, neighbours_in}
+use Rattle.questions.specs.Answering.{reading_cases, rank_asked_case, phrase_in, phrase_cases, occurrences_answer, place_answer, neighbours_answer, phrase_answer, question_answer, ask_answer_in, ask_answer}
+use Rattle.samples.specs.Group.{sample_index, SampleGroup}
 
-pub sample-group : SampleGroup
-unfolding flatten first_of outside ranksBelow isText vocabularyCase code stream codewords streamText row superblockRow block_row superblockRows blockRows blocksCase path reach nodeBytes nodes text_of bytes_of lengthsOf index_of textIn sameArrays passes indexCases agrees stands places standsAt neighbourAt isAscending areStarts documentsCase documentOf sameDocument inOneDocument standsIn placesIn neighbourIn neighboursIn readingCases rankAskedCase phraseIn phraseCases occurrencesAnswer placeAnswer neighboursAnswer phraseAnswer questionAnswer askAnswerIn askAnswer sampleIndex
-sample-group =
+pub sample_group : SampleGroup
+unfolding flatten first_of outside ranks_below is_text vocabulary_case code stream codewords stream_text row superblock_row block_row superblock_rows block_rows blocks_case path reach node_bytes nodes text_of bytes_of lengths_of index_of text_in same_arrays passes index_cases agrees stands places stands_at neighbour_at is_ascending are_starts documents_case document_of same_document in_one_document stands_in places_in neighbour_in neighbours_in reading_cases rank_asked_case phrase_in phrase_cases occurrences_answer place_answer neighbours_answer phrase_answer question_answer ask_answer_in ask_answer sample_index
+sample_group =
     record {
-      codes = published-codes;
+      codes = published_codes;
       text = refl;
       written = refl;
-      nodeLines = refl;
-      readBack = refl;
-      belowFour = refl;
+      node_lines = refl;
+      read_back = refl;
+      below_four = refl;
       second = refl;
       phrase = refl;
-      phraseCount = refl;
+      phrase_count = refl;
       neighbours = refl;
       overlaps = refl;
     }

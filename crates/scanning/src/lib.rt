@@ -2,14 +2,14 @@
 // are spelled alike; with every letter table that keeps the rules.
 ghost use Rattle.std.specs.Prelude.{◌≡◌, true, ◌+◌, ◌≤◌, length, drop};
 ghost use Rattle.base.specs.Lists.{same};
-ghost use Rattle.lexicon.specs.Letters.{isTable};
-ghost use Rattle.lexicon.specs.Reading.{textWords};
-ghost use Rattle.scanning.specs.Scans.{letterAt, startFrom, run_at, wordsAt, WordBegins, bucketOf};
+ghost use Rattle.lexicon.specs.Letters.{is_table};
+ghost use Rattle.lexicon.specs.Reading.{text_words};
+ghost use Rattle.scanning.specs.Scans.{letter_at, start_from, run_at, words_at, WordBegins, bucket_of};
 
 // The letter at a position of a text, 0 at its end.
 pub fn letter_at(table: &[u8], text: &[u8], at: usize) -> u8
-    requires { isTable table.now ≡ true }
-    ensures { result ≡ letterAt table.now text.now at }
+    requires { is_table table.now ≡ true }
+    ensures { result ≡ letter_at table.now text.now at }
 {
     if at < text.len() {
         let byte = text[at] as usize;
@@ -21,8 +21,8 @@ pub fn letter_at(table: &[u8], text: &[u8], at: usize) -> u8
 
 // Where the first word at or after a position begins; the end of the text where there is none.
 pub fn word_start(table: &[u8], text: &[u8], at: usize) -> usize
-    requires { (isTable table.now ≡ true) × (at ≤ length text.now) }
-    ensures { result ≡ startFrom table.now text.now at }
+    requires { (is_table table.now ≡ true) × (at ≤ length text.now) }
+    ensures { result ≡ start_from table.now text.now at }
 {
     let mut start = at;
     while start < text.len() {
@@ -44,8 +44,8 @@ pub struct Scan {
 
 // The end and the bucket of the word that begins at a position.
 pub fn scan_word(table: &[u8], text: &[u8], start: usize) -> Scan
-    requires { (isTable table.now ≡ true) × (start ≤ length text.now) }
-    ensures { (result.end ≡ start + length (run_at table.now text.now start)) × (result.bucket ≡ bucketOf (run_at table.now text.now start)) }
+    requires { (is_table table.now ≡ true) × (start ≤ length text.now) }
+    ensures { (result.end ≡ start + length (run_at table.now text.now start)) × (result.bucket ≡ bucket_of (run_at table.now text.now start)) }
 {
     let mut bucket: usize = 0;
     let mut end = start;
@@ -63,8 +63,8 @@ pub fn scan_word(table: &[u8], text: &[u8], start: usize) -> Scan
 
 // The number of words of a text.
 pub fn text_size(table: &[u8], text: &[u8]) -> usize
-    requires { isTable table.now ≡ true }
-    ensures { result ≡ length (textWords table.now text.now) }
+    requires { is_table table.now ≡ true }
+    ensures { result ≡ length (text_words table.now text.now) }
 {
     let mut words: usize = 0;
     let mut start = word_start(table, text, 0);
@@ -80,7 +80,7 @@ pub fn text_size(table: &[u8], text: &[u8]) -> usize
 // Whether the word that begins at a position of a text and the one that begins at a position of a
 // list are spelled alike.
 pub fn same_word(table: &[u8], text: &[u8], start: usize, list: &[u8], at: usize) -> bool
-    requires { (isTable table.now ≡ true) × (start ≤ length text.now) × (at ≤ length list.now) }
+    requires { (is_table table.now ≡ true) × (start ≤ length text.now) × (at ≤ length list.now) }
     ensures { result ≡ same (run_at table.now text.now start) (run_at table.now list.now at) }
 {
     let mut i: usize = 0;
@@ -99,8 +99,8 @@ pub fn same_word(table: &[u8], text: &[u8], start: usize, list: &[u8], at: usize
 // Where the word begins that is so many words behind the one at a position; the end of the text
 // where they are the last.
 pub fn skip_words(table: &[u8], text: &[u8], at: usize, size: usize) -> usize
-    requires { (isTable table.now ≡ true) × WordBegins table.now text.now at × (size ≤ length (wordsAt table.now text.now at)) }
-    ensures { WordBegins table.now text.now result × (wordsAt table.now text.now result ≡ drop size (wordsAt table.now text.now at)) }
+    requires { (is_table table.now ≡ true) × WordBegins table.now text.now at × (size ≤ length (words_at table.now text.now at)) }
+    ensures { WordBegins table.now text.now result × (words_at table.now text.now result ≡ drop size (words_at table.now text.now at)) }
 {
     let mut start = at;
     let mut left = size;

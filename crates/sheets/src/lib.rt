@@ -3,12 +3,12 @@
 ghost use Rattle.std.specs.Prelude.{◌≡◌, true, ◌+◌, ◌*◌, ◌<◌, ◌≤◌, length};
 ghost use Rattle.base.specs.Answers.{written};
 ghost use Rattle.dense.specs.Code.{Closing};
-ghost use Rattle.index.specs.Arrays.{arrays, textIn};
-ghost use Rattle.starts.specs.Starts.{maxStarts, NodeStarts};
+ghost use Rattle.index.specs.Arrays.{arrays, text_in};
+ghost use Rattle.starts.specs.Starts.{max_starts, NodeStarts};
 ghost use Rattle.words.specs.Ready.{Ready};
-ghost use Rattle.documents.specs.Documents.{isAscending};
-ghost use Rattle.questions.specs.Answering.{questionAnswer};
-ghost use Rattle.sheet_calls.specs.Sheets.{pair_of, sheetAnswer};
+ghost use Rattle.documents.specs.Documents.{is_ascending};
+ghost use Rattle.questions.specs.Answering.{question_answer};
+ghost use Rattle.sheet_calls.specs.Sheets.{pair_of, sheet_answer};
 
 use base::{Answer, refusal};
 use index::Shape;
@@ -29,8 +29,8 @@ pub fn prepare(
     room: usize,
     starts: &mut [u32],
 ) -> Answer
-    requires { Closing s × (maxStarts ≤ length starts.old) }
-    ensures { (result ≡ sheetAnswer s shape (arrays lengths.now bytes.now superblocks.now blocks.now) documents.now asked room) × (result.refusal ≡ 0 → (isAscending documents.now ≡ true) × NodeStarts lengths.now starts.new) }
+    requires { Closing s × (max_starts ≤ length starts.old) }
+    ensures { (result ≡ sheet_answer s shape (arrays lengths.now bytes.now superblocks.now blocks.now) documents.now asked room) × (result.refusal ≡ 0 → (is_ascending documents.now ≡ true) × NodeStarts lengths.now starts.new) }
 {
     let checked = document_checks::check_in_documents(
         s,
@@ -67,8 +67,8 @@ pub fn answer_next(
     answers: &mut [u32],
     i: usize,
 ) -> usize
-    requires { Ready s shape (arrays lengths.now bytes.now superblocks.now blocks.now) starts.now × (isAscending documents.now ≡ true) × (2 * i + 1 < length answers.old) }
-    ensures { (result ≡ i + 1) × (answers.new ≡ written (pair_of (questionAnswer shape.vocabulary (textIn s (arrays lengths.now bytes.now superblocks.now blocks.now)) documents.now words.now question)) (2 * i) answers.old) }
+    requires { Ready s shape (arrays lengths.now bytes.now superblocks.now blocks.now) starts.now × (is_ascending documents.now ≡ true) × (2 * i + 1 < length answers.old) }
+    ensures { (result ≡ i + 1) × (answers.new ≡ written (pair_of (question_answer shape.vocabulary (text_in s (arrays lengths.now bytes.now superblocks.now blocks.now)) documents.now words.now question)) (2 * i) answers.old) }
 {
     let answer = answering::answer(
         s,

@@ -2,7 +2,7 @@
 use Rattle.std.specs.Prelude.{ℕ, List, take, replicate}
 use Rattle.index.specs.declared.Shape.{Shape}
 use Rattle.index.specs.Arrays.{Arrays, arrays}
-use Rattle.index.specs.Entries.{buildAnswer, buildExit}
+use Rattle.index.specs.Entries.{build_answer, build_exit}
 use Rattle.small_indexes.specs.declared.LentSizes.{LentSizes}
 use Rattle.small_indexes.specs.declared.SmallIndex.{SmallIndex}
 
@@ -11,12 +11,12 @@ abbrev pub lent : ℕ → List ℕ → List ℕ
 lent n xs = take n xs
 
 -- how many elements of each array are lent
-abbrev pub lentSizes : ℕ → ℕ → ℕ → ℕ → LentSizes
-lentSizes nodes bytes superblocks blocks = record { nodes = nodes; bytes = bytes; superblocks = superblocks; blocks = blocks }
+abbrev pub lent_sizes : ℕ → ℕ → ℕ → ℕ → LentSizes
+lent_sizes nodes bytes superblocks blocks = record { nodes = nodes; bytes = bytes; superblocks = superblocks; blocks = blocks }
 
 -- the four arrays that a call is lent
-abbrev pub lentArrays : SmallIndex → Arrays
-lentArrays small =
+abbrev pub lent_arrays : SmallIndex → Arrays
+lent_arrays small =
     arrays
     (lent small.sizes.nodes small.lengths)
     (lent small.sizes.bytes small.bytes)
@@ -28,16 +28,16 @@ unfoldable pub sevens : Arrays
 sevens = arrays (replicate 16514 7) (replicate 20 7) (replicate 2560 7) (replicate 2560 7)
 
 -- a small index with these arrays: its answer is that of building
-unfoldable pub builtIndex : Shape → List ℕ → LentSizes → SmallIndex
-builtIndex shape t sizes =
+unfoldable pub built_index : Shape → List ℕ → LentSizes → SmallIndex
+built_index shape t sizes =
     record {
-      lengths = (buildExit 128 shape t sevens).lengths;
-      bytes = (buildExit 128 shape t sevens).bytes;
-      superblocks = (buildExit 128 shape t sevens).superblocks;
-      blocks = (buildExit 128 shape t sevens).blocks;
+      lengths = (build_exit 128 shape t sevens).lengths;
+      bytes = (build_exit 128 shape t sevens).bytes;
+      superblocks = (build_exit 128 shape t sevens).superblocks;
+      blocks = (build_exit 128 shape t sevens).blocks;
       sizes = sizes;
       shape = shape;
-      answer = buildAnswer 128 shape t sevens;
+      answer = build_answer 128 shape t sevens;
     }
 
 -- the same arrays, sizes and answer with another V, B and b

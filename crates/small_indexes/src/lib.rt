@@ -1,14 +1,14 @@
 // Indexes of small texts, held by value, for the programs that try the entries: each is built once
 // and is then checked, asked and listed, whole or damaged.
 ghost use Rattle.std.specs.Prelude.{◌≡◌, length};
-ghost use Rattle.index.specs.Arrays.{shape_of, textIn};
-ghost use Rattle.index.specs.Entries.{checkAnswer};
-ghost use Rattle.documents.specs.Documents.{oneStart};
-ghost use Rattle.questions.specs.Answering.{askAnswerIn, askAnswer};
-ghost use Rattle.questions.specs.Passages.{passageAnswer, passageExit};
+ghost use Rattle.index.specs.Arrays.{shape_of, text_in};
+ghost use Rattle.index.specs.Entries.{check_answer};
+ghost use Rattle.documents.specs.Documents.{one_start};
+ghost use Rattle.questions.specs.Answering.{ask_answer_in, ask_answer};
+ghost use Rattle.questions.specs.Passages.{passage_answer, passage_exit};
 ghost use Rattle.listing.specs.Paging.{call_of, page_of};
-ghost use Rattle.summaries.specs.Summaries.{summaryAnswer, summaryExit};
-ghost use Rattle.small_indexes.specs.Lent.{lent, lentSizes, lentArrays, builtIndex, reshaped, resized};
+ghost use Rattle.summaries.specs.Summaries.{summary_answer, summary_exit};
+ghost use Rattle.small_indexes.specs.Lent.{lent, lent_sizes, lent_arrays, built_index, reshaped, resized};
 
 use base::Answer;
 use index::Shape;
@@ -51,7 +51,7 @@ pub fn shape_of(vocabulary: usize, block: usize, per_superblock: usize) -> Shape
 
 // How many elements of each array are lent.
 pub fn lent_sizes(nodes: usize, bytes: usize, superblocks: usize, blocks: usize) -> LentSizes
-    ensures { result ≡ lentSizes nodes bytes superblocks blocks }
+    ensures { result ≡ lent_sizes nodes bytes superblocks blocks }
 {
     LentSizes {
         nodes,
@@ -88,7 +88,7 @@ fn front_blocks(counters: &[u16], n: usize) -> &[u16]
 impl SmallIndex {
     // Builds the index of a text in arrays that hold nothing but 7, to be lent in these sizes.
     pub fn built(shape: Shape, text: &[u32], sizes: LentSizes) -> SmallIndex
-        ensures { result ≡ builtIndex shape text.now sizes }
+        ensures { result ≡ built_index shape text.now sizes }
     {
         let mut lengths = [7u32; 16514];
         let mut bytes = [7u8; 20];
@@ -115,7 +115,7 @@ impl SmallIndex {
 
     // Builds the index of a text with B 256 and b 8, so that it has one row of counters of each kind.
     pub fn of(vocabulary: usize, text: &[u32], nodes: usize, bytes: usize) -> SmallIndex
-        ensures { result ≡ builtIndex (shape_of vocabulary 256 8) text.now (lentSizes nodes bytes 256 256) }
+        ensures { result ≡ built_index (shape_of vocabulary 256 8) text.now (lent_sizes nodes bytes 256 256) }
     {
         SmallIndex::built(
             shape_of(vocabulary, 256, 8),
@@ -140,7 +140,7 @@ impl SmallIndex {
         upper: usize,
         lower: usize,
     ) -> SmallIndex
-        ensures { result ≡ resized (lentSizes nodes bytes upper lower) self }
+        ensures { result ≡ resized (lent_sizes nodes bytes upper lower) self }
     {
         self.sizes = lent_sizes(nodes, bytes, upper, lower);
         self
@@ -148,7 +148,7 @@ impl SmallIndex {
 
     // Checks the index.
     pub fn check(self) -> Answer
-        ensures { result ≡ checkAnswer 128 self.shape (lentArrays self) }
+        ensures { result ≡ check_answer 128 self.shape (lent_arrays self) }
     {
         let lengths = self.lengths;
         let bytes = self.bytes;
@@ -165,7 +165,7 @@ impl SmallIndex {
 
     // Asks a question of the index.
     pub fn ask(self, words: &[u32], question: Question) -> Answer
-        ensures { result ≡ askAnswer 128 self.shape (lentArrays self) words.now question }
+        ensures { result ≡ ask_answer 128 self.shape (lent_arrays self) words.now question }
     {
         let lengths = self.lengths;
         let bytes = self.bytes;
@@ -184,7 +184,7 @@ impl SmallIndex {
 
     // Asks a question of the index with document starts.
     pub fn ask_in_documents(self, documents: &[u32], words: &[u32], question: Question) -> Answer
-        ensures { result ≡ askAnswerIn 128 self.shape (lentArrays self) documents.now words.now question }
+        ensures { result ≡ ask_answer_in 128 self.shape (lent_arrays self) documents.now words.now question }
     {
         let lengths = self.lengths;
         let bytes = self.bytes;
@@ -211,8 +211,8 @@ impl SmallIndex {
         count: usize,
         counts: &mut [u32],
     ) -> Answer
-        ensures answered { result ≡ summaryAnswer 128 self.shape (lentArrays self) documents.now words.now start count (length counts.old) }
-        ensures counted { counts.new ≡ summaryExit 128 self.shape (lentArrays self) documents.now words.now start count counts.old }
+        ensures answered { result ≡ summary_answer 128 self.shape (lent_arrays self) documents.now words.now start count (length counts.old) }
+        ensures counted { counts.new ≡ summary_exit 128 self.shape (lent_arrays self) documents.now words.now start count counts.old }
     {
         let lengths = self.lengths;
         let bytes = self.bytes;
@@ -234,8 +234,8 @@ impl SmallIndex {
 
     // Reads a passage of the index.
     pub fn passage(self, place: usize, ranks: &mut [u32]) -> Answer
-        ensures answered { result ≡ passageAnswer 128 self.shape (lentArrays self) place ranks.old }
-        ensures read { ranks.new ≡ passageExit 128 self.shape (lentArrays self) place ranks.old }
+        ensures answered { result ≡ passage_answer 128 self.shape (lent_arrays self) place ranks.old }
+        ensures read { ranks.new ≡ passage_exit 128 self.shape (lent_arrays self) place ranks.old }
     {
         let lengths = self.lengths;
         let bytes = self.bytes;
@@ -261,8 +261,8 @@ impl SmallIndex {
         count: usize,
         lines: &mut [u32],
     ) -> Page
-        ensures returned { result ≡ (page_of (call_of 128 self.shape (lentArrays self) (oneStart (length (textIn 128 (lentArrays self)))) words.now start count lines.old) state).page }
-        ensures written { lines.new ≡ (page_of (call_of 128 self.shape (lentArrays self) (oneStart (length (textIn 128 (lentArrays self)))) words.now start count lines.old) state).lines }
+        ensures returned { result ≡ (page_of (call_of 128 self.shape (lent_arrays self) (one_start (length (text_in 128 (lent_arrays self)))) words.now start count lines.old) state).page }
+        ensures written { lines.new ≡ (page_of (call_of 128 self.shape (lent_arrays self) (one_start (length (text_in 128 (lent_arrays self)))) words.now start count lines.old) state).lines }
     {
         let lengths = self.lengths;
         let bytes = self.bytes;
@@ -291,8 +291,8 @@ impl SmallIndex {
         count: usize,
         lines: &mut [u32],
     ) -> Page
-        ensures returned { result ≡ (page_of (call_of 128 self.shape (lentArrays self) documents.now words.now start count lines.old) state).page }
-        ensures written { lines.new ≡ (page_of (call_of 128 self.shape (lentArrays self) documents.now words.now start count lines.old) state).lines }
+        ensures returned { result ≡ (page_of (call_of 128 self.shape (lent_arrays self) documents.now words.now start count lines.old) state).page }
+        ensures written { lines.new ≡ (page_of (call_of 128 self.shape (lent_arrays self) documents.now words.now start count lines.old) state).lines }
     {
         let lengths = self.lengths;
         let bytes = self.bytes;

@@ -4,8 +4,8 @@ use Rattle.base.specs.Lists.{total}
 
 -- the most elements of a table of node starts: one for each of 65,281 nodes, the most that an index has at any number of closing
 -- values, and one for the end of the last
-abbrev pub maxStarts : ℕ
-maxStarts = 65282
+abbrev pub max_starts : ℕ
+max_starts = 65282
 
 -- a table has, for each node, its start in the node bytes, and then the end of the last node; what stands past that does not matter
 pub record NodeStarts (lengths starts : List ℕ) : Type 0 where

@@ -1,13 +1,13 @@
 // A summary beside the index: how often a phrase stands in each document.
 ghost use Rattle.std.specs.Prelude.{◌≡◌, true, ◌≤◌, length};
 ghost use Rattle.base.specs.Lists.{Below};
-ghost use Rattle.base.specs.Texts.{maxPhrase};
+ghost use Rattle.base.specs.Texts.{max_phrase};
 ghost use Rattle.base.specs.Answers.{front};
 ghost use Rattle.dense.specs.Code.{Closing};
-ghost use Rattle.index.specs.Arrays.{Arrays, arrays, textIn};
+ghost use Rattle.index.specs.Arrays.{Arrays, arrays, text_in};
 ghost use Rattle.words.specs.Ready.{Checked};
-ghost use Rattle.documents.specs.Documents.{areStarts, countsByDocument};
-ghost use Rattle.summaries.specs.Summaries.{summaryRequest, summaryAnswer, summaryExit};
+ghost use Rattle.documents.specs.Documents.{are_starts, counts_by_document};
+ghost use Rattle.summaries.specs.Summaries.{summary_request, summary_answer, summary_exit};
 
 use base::{Answer, refusal};
 use index::Shape;
@@ -23,7 +23,7 @@ fn summary_request(
     documents: usize,
     room: usize,
 ) -> Answer
-    ensures { result ≡ summaryRequest vocabulary words.now start count documents room }
+    ensures { result ≡ summary_request vocabulary words.now start count documents room }
 {
     if count == 0 {
         return Answer::refused(refusal::PHRASE);
@@ -52,8 +52,8 @@ fn write_summary(
 )
     ghost a: { Arrays }
     requires blocks_value { arrays lengths.now bytes.now superblocks.now blocks.now ≡ a }
-    requires checked { Checked s shape a × (1 ≤ length words.now) × (length words.now ≤ maxPhrase) × Below shape.vocabulary words.now × (areStarts (length (textIn s a)) documents.now ≡ true) × (length documents.now ≤ length counts.old) }
-    ensures { counts.new ≡ front (countsByDocument documents.now (textIn s a) words.now) counts.old }
+    requires checked { Checked s shape a × (1 ≤ length words.now) × (length words.now ≤ max_phrase) × Below shape.vocabulary words.now × (are_starts (length (text_in s a)) documents.now ≡ true) × (length documents.now ≤ length counts.old) }
+    ensures { counts.new ≡ front (counts_by_document documents.now (text_in s a) words.now) counts.old }
 {
     let m = words.len();
     let mut starts = [0u32; starts::MAX_STARTS];
@@ -90,7 +90,7 @@ pub fn summary_of(
     counts: &mut [u32],
 ) -> Answer
     requires { Closing s }
-    ensures { (result ≡ summaryAnswer s shape (arrays lengths.now bytes.now superblocks.now blocks.now) documents.now words.now start count (length counts.old)) × (counts.new ≡ summaryExit s shape (arrays lengths.now bytes.now superblocks.now blocks.now) documents.now words.now start count counts.old) }
+    ensures { (result ≡ summary_answer s shape (arrays lengths.now bytes.now superblocks.now blocks.now) documents.now words.now start count (length counts.old)) × (counts.new ≡ summary_exit s shape (arrays lengths.now bytes.now superblocks.now blocks.now) documents.now words.now start count counts.old) }
 {
     let checked = document_checks::check_in_documents(
         s,
@@ -144,7 +144,7 @@ pub fn summary(
     count: usize,
     counts: &mut [u32],
 ) -> Answer
-    ensures { (result ≡ summaryAnswer 128 shape (arrays lengths.now bytes.now superblocks.now blocks.now) documents.now words.now start count (length counts.old)) × (counts.new ≡ summaryExit 128 shape (arrays lengths.now bytes.now superblocks.now blocks.now) documents.now words.now start count counts.old) }
+    ensures { (result ≡ summary_answer 128 shape (arrays lengths.now bytes.now superblocks.now blocks.now) documents.now words.now start count (length counts.old)) × (counts.new ≡ summary_exit 128 shape (arrays lengths.now bytes.now superblocks.now blocks.now) documents.now words.now start count counts.old) }
 {
     summary_of(
         dense::CLOSING,

@@ -7,12 +7,12 @@ use native.Mathlib.Omega.{arith}
 use lib.ListN.{length, get_or, set, drop, replicate, get_or-replicate}
 use lib.Seq.{ext_get_or, get_or-drop, get_or-set_same, get_or-set_other}
 use Rattle.base.specs.Lists.{Below, count_of}
-use Rattle.base.proofs.Tests.{same_or_not, cond_same, cond-other}
-use Rattle.base.proofs.Lists.{all-at, all-of-at}
-use Rattle.base.proofs.Counts.{count-append, count_most}
-use Rattle.base.proofs.Ranges.{length-map-range, getD-map-range}
+use Rattle.base.proofs.Tests.{same_or_not, cond_same, cond_other}
+use Rattle.base.proofs.Lists.{all_at, all_of_at}
+use Rattle.base.proofs.Counts.{count_append, count_most}
+use Rattle.base.proofs.Ranges.{length_map_range, get_d-map_range}
 use Rattle.directory.specs.Counters.{row}
-use Rattle.directory.proofs.Rows.{row-length, row_at}
+use Rattle.directory.proofs.Rows.{row_length, row_at}
 use Rattle.tallies.specs.Tallies.{sums, counters}
 
 -- ---- 256 numbers
@@ -23,37 +23,37 @@ same_numbers xs ys p q e = ext_get_or 0 xs ys (p ∙ sym q) (λ x h. e x (rw p a
 
 -- a number of a list that is below a bound
 pub below_at : (bound : ℕ) (xs : List ℕ) → Below bound xs → length xs ≡ 256 → (x : ℕ) → x < 256 → get_or xs x 0 < bound
-below_at bound xs b l x h = all-at (λ (n : ℕ). n < bound) xs 0 x b (omega arith)
+below_at bound xs b l x h = all_at (λ (n : ℕ). n < bound) xs 0 x b (omega arith)
 
 -- a row is below any number above the length
 pub row_below : (bound : ℕ) (xs : List ℕ) → length xs < bound → Below bound (row xs)
 row_below bound xs l =
-    all-of-at (λ (n : ℕ). n < bound) (row xs) 0 (λ x h.
-    let below : x < 256 = omega (arith, row-length xs) in
+    all_of_at (λ (n : ℕ). n < bound) (row xs) 0 (λ x h.
+    let below : x < 256 = omega (arith, row_length xs) in
     omega (arith, row_at xs x below, count_most x xs))
 
 -- ---- sums
 
 -- there are 256 sums
-pub sums-length : (xs ys : List ℕ) → length (sums xs ys) ≡ 256
+pub sums_length : (xs ys : List ℕ) → length (sums xs ys) ≡ 256
 unfolding sums
-sums-length xs ys = length-map-range (λ (x : ℕ). get_or xs x 0 + get_or ys x 0) 0 256
+sums_length xs ys = length_map_range (λ (x : ℕ). get_or xs x 0 + get_or ys x 0) 0 256
 
 -- sum x
 pub sums_at : (xs ys : List ℕ) (x : ℕ) → x < 256 → get_or (sums xs ys) x 0 ≡ get_or xs x 0 + get_or ys x 0
 unfolding sums
-sums_at xs ys x h = getD-map-range (λ (x : ℕ). get_or xs x 0 + get_or ys x 0) 256 x 0 h
+sums_at xs ys x h = get_d-map_range (λ (x : ℕ). get_or xs x 0 + get_or ys x 0) 256 x 0 h
 
 -- the sums of two rows are the row of both lists
-pub sums-rows : (xs ys : List ℕ) → sums (row xs) (row ys) ≡ row (xs ++ ys)
-sums-rows xs ys =
-    same_numbers (sums (row xs) (row ys)) (row (xs ++ ys)) (sums-length (row xs) (row ys)) (row-length (xs ++ ys))
-    (λ x h. omega (arith, sums_at (row xs) (row ys) x h, row_at xs x h, row_at ys x h, row_at (xs ++ ys) x h, count-append x xs ys))
+pub sums_rows : (xs ys : List ℕ) → sums (row xs) (row ys) ≡ row (xs ++ ys)
+sums_rows xs ys =
+    same_numbers (sums (row xs) (row ys)) (row (xs ++ ys)) (sums_length (row xs) (row ys)) (row_length (xs ++ ys))
+    (λ x h. omega (arith, sums_at (row xs) (row ys) x h, row_at xs x h, row_at ys x h, row_at (xs ++ ys) x h, count_append x xs ys))
 
 -- and so are the sums of a list with one and then the other
-pub sums-row : (cs xs ys : List ℕ) → sums (sums cs (row xs)) (row ys) ≡ sums cs (row (xs ++ ys))
-sums-row cs xs ys =
-    same_numbers (sums (sums cs (row xs)) (row ys)) (sums cs (row (xs ++ ys))) (sums-length (sums cs (row xs)) (row ys)) (sums-length cs (row (xs ++ ys)))
+pub sums_row : (cs xs ys : List ℕ) → sums (sums cs (row xs)) (row ys) ≡ sums cs (row (xs ++ ys))
+sums_row cs xs ys =
+    same_numbers (sums (sums cs (row xs)) (row ys)) (sums cs (row (xs ++ ys))) (sums_length (sums cs (row xs)) (row ys)) (sums_length cs (row (xs ++ ys)))
     (λ x h.
     omega (
       arith,
@@ -63,53 +63,53 @@ sums-row cs xs ys =
       row_at xs x h,
       row_at ys x h,
       row_at (xs ++ ys) x h,
-      count-append x xs ys,
+      count_append x xs ys,
     ))
 
 -- with the row of no bytes, 256 numbers are as they were
 pub sums_none : (cs : List ℕ) → length cs ≡ 256 → cs ≡ sums cs (row [])
-sums_none cs l = same_numbers cs (sums cs (row [])) l (sums-length cs (row [])) (λ x h. omega (arith, sums_at cs (row []) x h, row_at [] x h))
+sums_none cs l = same_numbers cs (sums cs (row [])) l (sums_length cs (row [])) (λ x h. omega (arith, sums_at cs (row []) x h, row_at [] x h))
 
 -- ---- the counters in two lanes
 
 -- there are 256 counters
-pub counters-length : (lanes : List ℕ) → length (counters lanes) ≡ 256
+pub counters_length : (lanes : List ℕ) → length (counters lanes) ≡ 256
 unfolding counters
-counters-length lanes = sums-length lanes (drop 256 lanes)
+counters_length lanes = sums_length lanes (drop 256 lanes)
 
 -- counter x
-pub counters-at : (lanes : List ℕ) (x : ℕ) → x < 256 → get_or (counters lanes) x 0 ≡ get_or lanes x 0 + get_or lanes (256 + x) 0
+pub counters_at : (lanes : List ℕ) (x : ℕ) → x < 256 → get_or (counters lanes) x 0 ≡ get_or lanes x 0 + get_or lanes (256 + x) 0
 unfolding counters
-counters-at lanes x h = sums_at lanes (drop 256 lanes) x h ∙ ap (λ (n : ℕ). get_or lanes x 0 + n) (get_or-drop 256 lanes x 0)
+counters_at lanes x h = sums_at lanes (drop 256 lanes) x h ∙ ap (λ (n : ℕ). get_or lanes x 0 + n) (get_or-drop 256 lanes x 0)
 
 -- the two lanes of a counter that fits
-pub counter-fits : (lanes : List ℕ) → Below 65536 (counters lanes) → (x : ℕ) → x < 256 → get_or lanes x 0 + get_or lanes (256 + x) 0 < 65536
-counter-fits lanes b x h = omega (arith, counters-at lanes x h, below_at 65536 (counters lanes) b (counters-length lanes) x h)
+pub counter_fits : (lanes : List ℕ) → Below 65536 (counters lanes) → (x : ℕ) → x < 256 → get_or lanes x 0 + get_or lanes (256 + x) 0 < 65536
+counter_fits lanes b x h = omega (arith, counters_at lanes x h, below_at 65536 (counters lanes) b (counters_length lanes) x h)
 
 -- lanes of zeros are the row of no bytes
-pub counters-none : counters (replicate 512 0) ≡ row []
-counters-none =
-    same_numbers (counters (replicate 512 0)) (row []) (counters-length (replicate 512 0)) (row-length [])
+pub counters_none : counters (replicate 512 0) ≡ row []
+counters_none =
+    same_numbers (counters (replicate 512 0)) (row []) (counters_length (replicate 512 0)) (row_length [])
     (λ x h.
     omega (
       arith,
-      counters-at (replicate 512 0) x h,
+      counters_at (replicate 512 0) x h,
       get_or-replicate {A = ℕ} 512 x 0 0 (omega arith),
       get_or-replicate {A = ℕ} 512 (256 + x) 0 0 (omega arith),
       row_at [] x h,
     ))
 
 -- each lane is at most the counter
-pub lane-most : (lanes : List ℕ) (k x : ℕ) → x < 256 → (k ≡ x) ⊎ (k ≡ 256 + x) → get_or lanes k 0 ≤ get_or (counters lanes) x 0
-lane-most lanes k x h (inl e) = rw e (omega (arith, counters-at lanes x h))
-lane-most lanes k x h (inr e) = rw e (omega (arith, counters-at lanes x h))
+pub lane_most : (lanes : List ℕ) (k x : ℕ) → x < 256 → (k ≡ x) ⊎ (k ≡ 256 + x) → get_or lanes k 0 ≤ get_or (counters lanes) x 0
+lane_most lanes k x h (inl e) = rw e (omega (arith, counters_at lanes x h))
+lane_most lanes k x h (inr e) = rw e (omega (arith, counters_at lanes x h))
 
 -- one of the two lanes of x goes up by one, at the index k: the byte x is counted
-pub counters-up : (lanes : List ℕ) (k x : ℕ) → length lanes ≡ 512 → x < 256 → (k ≡ x) ⊎ (k ≡ 256 + x)
+pub counters_up : (lanes : List ℕ) (k x : ℕ) → length lanes ≡ 512 → x < 256 → (k ≡ x) ⊎ (k ≡ 256 + x)
     → counters (set lanes k (get_or lanes k 0 + 1)) ≡ sums (counters lanes) (row (x ∷ []))
-counters-up lanes k x l h w =
-    same_numbers (counters up) (sums (counters lanes) (row (x ∷ []))) (counters-length up) (sums-length (counters lanes) (row (x ∷ [])))
-    (λ y b. omega (arith, counters-at up y b, counters-at lanes y b, sums_at (counters lanes) (row (x ∷ [])) y b, row_at (x ∷ []) y b, go y b w (same_or_not x y)))
+counters_up lanes k x l h w =
+    same_numbers (counters up) (sums (counters lanes) (row (x ∷ []))) (counters_length up) (sums_length (counters lanes) (row (x ∷ [])))
+    (λ y b. omega (arith, counters_at up y b, counters_at lanes y b, sums_at (counters lanes) (row (x ∷ [])) y b, row_at (x ∷ []) y b, go y b w (same_or_not x y)))
   where
     up : List ℕ
     up = set lanes k (get_or lanes k 0 + 1)
@@ -123,5 +123,5 @@ counters-up lanes k x l h w =
     go : (y : ℕ) → y < 256 → (k ≡ x) ⊎ (k ≡ 256 + x) → (x ≡ y) ⊎ (x ≡ y → ⊥) → get_or up y 0 + get_or up (256 + y) 0 ≡ get_or lanes y 0 + get_or lanes (256 + y) 0 + count_of y (x ∷ [])
     go y b (inl e) (inl q) = omega (arith, more y (omega arith) (omega arith), as-was (256 + y) (λ (z : 256 + y ≡ k). omega arith), cond_same (suc 0) 0 x y q)
     go y b (inr e) (inl q) = omega (arith, more (256 + y) (omega arith) (omega arith), as-was y (λ (z : y ≡ k). omega arith), cond_same (suc 0) 0 x y q)
-    go y b (inl e) (inr n) = omega (arith, as-was y (λ (z : y ≡ k). n (omega arith)), as-was (256 + y) (λ (z : 256 + y ≡ k). omega arith), cond-other (suc 0) 0 x y n)
-    go y b (inr e) (inr n) = omega (arith, as-was y (λ (z : y ≡ k). omega arith), as-was (256 + y) (λ (z : 256 + y ≡ k). n (omega arith)), cond-other (suc 0) 0 x y n)
+    go y b (inl e) (inr n) = omega (arith, as-was y (λ (z : y ≡ k). n (omega arith)), as-was (256 + y) (λ (z : 256 + y ≡ k). omega arith), cond_other (suc 0) 0 x y n)
+    go y b (inr e) (inr n) = omega (arith, as-was y (λ (z : y ≡ k). omega arith), as-was (256 + y) (λ (z : 256 + y ≡ k). n (omega arith)), cond_other (suc 0) 0 x y n)

@@ -11,10 +11,10 @@ use lib.Seq.{paste, paste-zero, paste-suc, length-paste, take-add, take_all}
 use Rattle.base.specs.Lists.{same}
 use Rattle.base.specs.Answers.{front}
 use Rattle.base.proofs.Lists.{same_more, same_true, same_false}
-use Rattle.directory.specs.Tables.{firstRows}
-use Rattle.directory.proofs.FirstRows.{first-rows-suc, first-rows-length, first-rows-row}
+use Rattle.directory.specs.Tables.{first_rows}
+use Rattle.directory.proofs.FirstRows.{first_rows_suc, first_rows_length, first_rows_row}
 use Rattle.tallies.specs.Tallies.{BeginsWithRows}
-use Rattle.base.proofs.Fronts.{length_front, take-front, front-of-take, front-over, front-paste, paste-next}
+use Rattle.base.proofs.Fronts.{length_front, take_front, front_of_take, front_over, front_paste, paste_next}
 
 -- ---- one row written
 
@@ -26,17 +26,17 @@ pub record Put (table₀ : List ℕ) (row : ℕ) (s : List ℕ) (at : ℕ) (tabl
 
 module _ (table₀ : List ℕ) (row : ℕ) (s : List ℕ) where
   -- at the start nothing is written
-  pub put-start : Put table₀ row s (row * 256) table₀ 0
-  put-start = record { most = omega arith; starts = refl; pasted = paste-zero table₀ (row * 256) s }
+  pub put_start : Put table₀ row s (row * 256) table₀ 0
+  put_start = record { most = omega arith; starts = refl; pasted = paste-zero table₀ (row * 256) s }
 
   module _ (fits : (row + 1) * 256 ≤ length table₀) (long : length s ≡ 256) {at : ℕ} {table : List ℕ} {x : ℕ} (p : Put table₀ row s at table x) where
     -- the table keeps its length
-    pub put-length : length table ≡ length table₀
-    put-length = ap length p.pasted ∙ length-paste table₀ at s x (omega (arith, p.most, p.starts)) (omega (arith, p.most))
+    pub put_length : length table ≡ length table₀
+    put_length = ap length p.pasted ∙ length-paste table₀ at s x (omega (arith, p.most, p.starts)) (omega (arith, p.most))
 
     -- the number that is written next is as it was
-    pub put-left : x < 256 → get_or table (at + x) 0 ≡ get_or table₀ (at + x) 0
-    put-left h = ap (λ (t : List ℕ). get_or t (at + x) 0) p.pasted ∙ paste-next table₀ at s x (omega (arith, p.starts)) (omega arith)
+    pub put_left : x < 256 → get_or table (at + x) 0 ≡ get_or table₀ (at + x) 0
+    put_left h = ap (λ (t : List ℕ). get_or t (at + x) 0) p.pasted ∙ paste_next table₀ at s x (omega (arith, p.starts)) (omega arith)
 
     -- one number more is written
     pub put_next : (y : ℕ) → y ≡ get_or s x 0 → x < 256 → Put table₀ row s at (set table (at + x) y) (x + 1)
@@ -47,8 +47,8 @@ module _ (table₀ : List ℕ) (row : ℕ) (s : List ℕ) where
     }
 
   -- after 256 numbers the row is written
-  pub put-end : {at : ℕ} {table : List ℕ} {x : ℕ} → Put table₀ row s at table x → 256 ≤ x → table ≡ paste table₀ (row * 256) s 256
-  put-end {x = x} p h =
+  pub put_end : {at : ℕ} {table : List ℕ} {x : ℕ} → Put table₀ row s at table x → 256 ≤ x → table ≡ paste table₀ (row * 256) s 256
+  put_end {x = x} p h =
       let e : x ≡ 256 = omega (arith, p.most) in
       rw (← p.starts, ← e) p.pasted
 
@@ -62,21 +62,21 @@ pub record Compared (table : List ℕ) (row : ℕ) (s : List ℕ) (at : ℕ) (eq
 
 module _ (table : List ℕ) (row : ℕ) (s : List ℕ) where
   -- at the start nothing is compared
-  pub compared-start : Compared table row s (row * 256) true 0
-  compared-start = record { most = omega arith; starts = refl; so_far = refl }
+  pub compared_start : Compared table row s (row * 256) true 0
+  compared_start = record { most = omega arith; starts = refl; so_far = refl }
 
   module _ (fits : (row + 1) * 256 ≤ length table) (long : length s ≡ 256) {at : ℕ} {equal : Bool} {x : ℕ} (p : Compared table row s at equal x) where
     -- one number more is compared
-    pub compared-next : (y : ℕ) → y ≡ get_or s x 0 → x < 256 → Compared table row s at (equal && eqb (get_or table (at + x) 0) y) (x + 1)
-    compared-next y e h = record {
+    pub compared_next : (y : ℕ) → y ≡ get_or s x 0 → x < 256 → Compared table row s at (equal && eqb (get_or table (at + x) 0) y) (x + 1)
+    compared_next y e h = record {
       most = omega arith;
       starts = p.starts;
       so_far = rw (p.so_far, e) (same_more table at s x (omega (arith, p.starts)) (omega arith));
     }
 
     -- after 256 numbers the row is compared
-    pub compared-end : 256 ≤ x → equal ≡ same (take 256 (drop (row * 256) table)) s
-    compared-end h =
+    pub compared_end : 256 ≤ x → equal ≡ same (take 256 (drop (row * 256) table)) s
+    compared_end h =
         let e : x ≡ 256 = omega (arith, p.most) in
         let all : take 256 s ≡ s = take_all 256 s (omega arith) in
         rw (e, p.starts, all) at p.so_far
@@ -84,43 +84,43 @@ module _ (table : List ℕ) (row : ℕ) (s : List ℕ) where
 -- ---- the rows of a table
 
 -- a table begins with no row
-pub begins-none : (f : ℕ → List ℕ) (l : List ℕ) → BeginsWithRows f 0 l
+pub begins_none : (f : ℕ → List ℕ) (l : List ℕ) → BeginsWithRows f 0 l
 unfolding flatten
-begins-none f l = refl
+begins_none f l = refl
 
 module _ (f : ℕ → List ℕ) (wide : (r : ℕ) → length (f r) ≡ 256) where
   -- n rows in front of a slice that has room for them leave its length
-  pub rows-length : (n : ℕ) (l : List ℕ) → n * 256 ≤ length l → length (front (firstRows f n) l) ≡ length l
-  rows-length n l h = length_front (firstRows f n) l (omega (arith, first-rows-length f 256 wide n))
+  pub rows_length : (n : ℕ) (l : List ℕ) → n * 256 ≤ length l → length (front (first_rows f n) l) ≡ length l
+  rows_length n l h = length_front (first_rows f n) l (omega (arith, first_rows_length f 256 wide n))
 
   -- one row more is written behind n rows
-  pub rows-put : (n : ℕ) (l table s : List ℕ) → table ≡ front (firstRows f n) l → s ≡ f n → paste table (n * 256) s 256 ≡ front (firstRows f (n + 1)) l
-  rows-put n l table s p q =
-      let e : paste (front (firstRows f n) l) (length (firstRows f n)) (f n) (length (f n)) ≡ front (firstRows f n ++ f n) l = front-paste (firstRows f n) (f n) l in
-      rw (p, q, add-one n, first-rows-suc f n) (rw (first-rows-length f 256 wide n, wide n) at e)
+  pub rows_put : (n : ℕ) (l table s : List ℕ) → table ≡ front (first_rows f n) l → s ≡ f n → paste table (n * 256) s 256 ≡ front (first_rows f (n + 1)) l
+  rows_put n l table s p q =
+      let e : paste (front (first_rows f n) l) (length (first_rows f n)) (f n) (length (f n)) ≡ front (first_rows f n ++ f n) l = front_paste (first_rows f n) (f n) l in
+      rw (p, q, add-one n, first_rows_suc f n) (rw (first_rows_length f 256 wide n, wide n) at e)
 
   -- more rows over some of them
-  pub rows-over : (n m : ℕ) (l : List ℕ) → n ≤ m → front (firstRows f m) (front (firstRows f n) l) ≡ front (firstRows f m) l
-  rows-over n m l h = front-over (firstRows f n) (firstRows f m) l (omega (arith, first-rows-length f 256 wide n, first-rows-length f 256 wide m))
+  pub rows_over : (n m : ℕ) (l : List ℕ) → n ≤ m → front (first_rows f m) (front (first_rows f n) l) ≡ front (first_rows f m) l
+  rows_over n m l h = front_over (first_rows f n) (first_rows f m) l (omega (arith, first_rows_length f 256 wide n, first_rows_length f 256 wide m))
 
   -- a table begins with the rows in front of it
-  pub begins-front : (n : ℕ) (l : List ℕ) → BeginsWithRows f n (front (firstRows f n) l)
-  begins-front n l = rw (first-rows-length f 256 wide n) at (take-front (firstRows f n) l)
+  pub begins_front : (n : ℕ) (l : List ℕ) → BeginsWithRows f n (front (first_rows f n) l)
+  begins_front n l = rw (first_rows_length f 256 wide n) at (take_front (first_rows f n) l)
 
   -- and a table that begins with rows has them in front
-  pub front-begins : (n : ℕ) (l : List ℕ) → BeginsWithRows f n l → l ≡ front (firstRows f n) l
-  front-begins n l b = front-of-take (firstRows f n) l (rw (first-rows-length f 256 wide n) b)
+  pub front_begins : (n : ℕ) (l : List ℕ) → BeginsWithRows f n l → l ≡ front (first_rows f n) l
+  front_begins n l b = front_of_take (first_rows f n) l (rw (first_rows_length f 256 wide n) b)
 
   -- one row more of a table is right
-  pub right-row : (n : ℕ) (l s : List ℕ) → BeginsWithRows f n l → s ≡ f n → same (take 256 (drop (n * 256) l)) s ≡ true → BeginsWithRows f (n + 1) l
-  right-row n l s b q e =
+  pub right_row : (n : ℕ) (l s : List ℕ) → BeginsWithRows f n l → s ≡ f n → same (take 256 (drop (n * 256) l)) s ≡ true → BeginsWithRows f (n + 1) l
+  right_row n l s b q e =
       let m : (n + 1) * 256 ≡ n * 256 + 256 = omega arith in
-      rw (m, take-add (n * 256) 256 l, b, same_true (take 256 (drop (n * 256) l)) s e, q, add-one n) (sym (first-rows-suc f n))
+      rw (m, take-add (n * 256) 256 l, b, same_true (take 256 (drop (n * 256) l)) s e, q, add-one n) (sym (first_rows_suc f n))
 
   -- a table of n rows, all of which are there, is the rows
-  pub begins-whole : (n : ℕ) (l : List ℕ) → length l ≡ n * 256 → BeginsWithRows f n l → l ≡ firstRows f n
-  begins-whole n l e b = sym (take_all (n * 256) l (omega arith)) ∙ b
+  pub begins_whole : (n : ℕ) (l : List ℕ) → length l ≡ n * 256 → BeginsWithRows f n l → l ≡ first_rows f n
+  begins_whole n l e b = sym (take_all (n * 256) l (omega arith)) ∙ b
 
   -- a row that is not right shows that a table is not the rows
-  pub wrong_row : (n r : ℕ) (l s : List ℕ) → r < n → s ≡ f r → same (take 256 (drop (r * 256) l)) s ≡ false → l ≡ firstRows f n → ⊥
-  wrong_row n r l s h e d q = same_false (take 256 (drop (r * 256) l)) s d (ap (λ (t : List ℕ). take 256 (drop (r * 256) t)) q ∙ first-rows-row f 256 wide n r h ∙ sym e)
+  pub wrong_row : (n r : ℕ) (l s : List ℕ) → r < n → s ≡ f r → same (take 256 (drop (r * 256) l)) s ≡ false → l ≡ first_rows f n → ⊥
+  wrong_row n r l s h e d q = same_false (take 256 (drop (r * 256) l)) s d (ap (λ (t : List ℕ). take 256 (drop (r * 256) t)) q ∙ first_rows_row f 256 wide n r h ∙ sym e)

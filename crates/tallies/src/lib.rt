@@ -2,9 +2,9 @@
 // Inner functions: their callers have checked the sizes.
 ghost use Rattle.std.specs.Prelude.{◌≡◌, ◌+◌, ◌*◌, ◌/◌, ◌≤◌, suc, length};
 ghost use Rattle.base.specs.Lists.{Below};
-ghost use Rattle.base.specs.Texts.{maxSuperblock};
-ghost use Rattle.directory.specs.Counters.{row as row_of, maxBytes};
-ghost use Rattle.tallies.specs.Tallies.{sums, counters, blockBytes, rowsEnd};
+ghost use Rattle.base.specs.Texts.{max_superblock};
+ghost use Rattle.directory.specs.Counters.{row as row_of, max_bytes};
+ghost use Rattle.tallies.specs.Tallies.{sums, counters, block_bytes, rows_end};
 
 // Adds to each of 256 counters how often its byte value stands in a part, neighbours in different
 // lanes, so that a run of one value does not wait for its own last store.
@@ -35,9 +35,9 @@ pub fn add(totals: &mut [u32; 256], lanes: &[u16; 512])
 
 // Adds to each of 256 counters how often its byte value stands in a block.
 pub fn tally_block(bytes: &[u8], block: usize, row: usize, lanes: &mut [u16; 512])
-    requires block_in_bounds { (row * block ≤ length bytes.now) × (length bytes.now ≤ maxBytes) × (block ≤ maxSuperblock) }
-    requires lanes_len { (length lanes.old ≡ 512) × Below 65536 (sums (counters lanes.old) (row_of (blockBytes block bytes.now row))) }
-    ensures { (length lanes.new ≡ 512) × (counters lanes.new ≡ sums (counters lanes.old) (row_of (blockBytes block bytes.now row))) }
+    requires block_in_bounds { (row * block ≤ length bytes.now) × (length bytes.now ≤ max_bytes) × (block ≤ max_superblock) }
+    requires lanes_len { (length lanes.old ≡ 512) × Below 65536 (sums (counters lanes.old) (row_of (block_bytes block bytes.now row))) }
+    ensures { (length lanes.new ≡ 512) × (counters lanes.new ≡ sums (counters lanes.old) (row_of (block_bytes block bytes.now row))) }
 {
     let from = row * block;
     let to = base::least(from + block, bytes.len());
@@ -46,7 +46,7 @@ pub fn tally_block(bytes: &[u8], block: usize, row: usize, lanes: &mut [u16; 512
 
 // How many rows a table has: one for each r with r × span at most the size.
 pub fn row_count(size: usize, span: usize) -> usize
-    requires { (1 ≤ span) × (size ≤ maxBytes) }
+    requires { (1 ≤ span) × (size ≤ max_bytes) }
     ensures { result ≡ suc (size / span) }
 {
     size / span + 1
@@ -54,8 +54,8 @@ pub fn row_count(size: usize, span: usize) -> usize
 
 // The first block row past a superblock, or past the last block row.
 pub fn rows_end(size: usize, block: usize, per: usize, superblock: usize) -> usize
-    requires { (1 ≤ block) × (size ≤ maxBytes) × (superblock * per + per ≤ maxBytes + maxSuperblock) }
-    ensures { result ≡ rowsEnd block per size superblock }
+    requires { (1 ≤ block) × (size ≤ max_bytes) × (superblock * per + per ≤ max_bytes + max_superblock) }
+    ensures { result ≡ rows_end block per size superblock }
 {
     base::least(superblock * per + per, row_count(size, block))
 }

@@ -7,22 +7,22 @@ use native.Mathlib.Omega.{arith}
 use lib.ListN.{length, take}
 use Rattle.base.specs.Lists.{count_of}
 use Rattle.dense.specs.Code.{continuing, closes}
-use Rattle.tree.specs.Nodes.{child, rankIn}
-use Rattle.tree.specs.Walks.{node, byte, walk, rankFrom, word_at}
-use Rattle.base.proofs.Tests.{cond-most, cond_above}
+use Rattle.tree.specs.Nodes.{child, rank_in}
+use Rattle.tree.specs.Walks.{node, byte, walk, rank_from, word_at}
+use Rattle.base.proofs.Tests.{cond_most, cond_above}
 
 -- the walk at a closing byte, and at a continuing one
-pub walk-closing : (s : ℕ) (ns : List (List ℕ)) (n k i b : ℕ) → byte ns k i ≡ b → continuing s ≤ b → walk s ns (suc n) k i ≡ b ∷ []
-walk-closing s ns n k i b q h = rw q (ap (λ (w : List ℕ). b ∷ w) (cond-most [] _ (continuing s) b h))
+pub walk_closing : (s : ℕ) (ns : List (List ℕ)) (n k i b : ℕ) → byte ns k i ≡ b → continuing s ≤ b → walk s ns (suc n) k i ≡ b ∷ []
+walk_closing s ns n k i b q h = rw q (ap (λ (w : List ℕ). b ∷ w) (cond_most [] _ (continuing s) b h))
 
-pub walk-continued : (s : ℕ) (ns : List (List ℕ)) (n k i b : ℕ) → byte ns k i ≡ b → b < continuing s
+pub walk_continued : (s : ℕ) (ns : List (List ℕ)) (n k i b : ℕ) → byte ns k i ≡ b → b < continuing s
     → walk s ns (suc n) k i ≡ b ∷ walk s ns n (child s k b) (count_of b (take i (node ns k)))
-walk-continued s ns n k i b q h = rw q (ap (λ (w : List ℕ). b ∷ w) (cond_above [] _ (continuing s) b h))
+walk_continued s ns n k i b q h = rw q (ap (λ (w : List ℕ). b ∷ w) (cond_above [] _ (continuing s) b h))
 
 -- a walk meets at most one byte a level
-pub walk-length : (s : ℕ) (ns : List (List ℕ)) (n k i : ℕ) → length (walk s ns n k i) ≤ n
-walk-length s ns zero k i = omega arith
-walk-length s ns (suc n) k i = go (closes s (byte ns k i)) (walk-length s ns n (child s k (byte ns k i)) (count_of (byte ns k i) (take i (node ns k))))
+pub walk_length : (s : ℕ) (ns : List (List ℕ)) (n k i : ℕ) → length (walk s ns n k i) ≤ n
+walk_length s ns zero k i = omega arith
+walk_length s ns (suc n) k i = go (closes s (byte ns k i)) (walk_length s ns n (child s k (byte ns k i)) (count_of (byte ns k i) (take i (node ns k))))
   where
     w : List ℕ
     w = walk s ns n (child s k (byte ns k i)) (count_of (byte ns k i) (take i (node ns k)))
@@ -34,11 +34,11 @@ walk-length s ns (suc n) k i = go (closes s (byte ns k i)) (walk-length s ns n (
 -- ---- the rank that is read
 
 -- at a closing byte, and at a continuing byte above the last level
-pub word-closing : (s : ℕ) (ns : List (List ℕ)) (n k i b : ℕ) → byte ns k i ≡ b → continuing s ≤ b → word_at s ns (suc n) k i ≡ rankIn s k b
+pub word_closing : (s : ℕ) (ns : List (List ℕ)) (n k i b : ℕ) → byte ns k i ≡ b → continuing s ≤ b → word_at s ns (suc n) k i ≡ rank_in s k b
 unfolding get_last_d
-word-closing s ns n k i b q h = ap (rankFrom s k) (walk-closing s ns n k i b q h)
+word_closing s ns n k i b q h = ap (rank_from s k) (walk_closing s ns n k i b q h)
 
-pub word-continued : (s : ℕ) (ns : List (List ℕ)) (n k i b : ℕ) → byte ns k i ≡ b → b < continuing s
+pub word_continued : (s : ℕ) (ns : List (List ℕ)) (n k i b : ℕ) → byte ns k i ≡ b → b < continuing s
     → word_at s ns (suc (suc n)) k i ≡ word_at s ns (suc n) (child s k b) (count_of b (take i (node ns k)))
 unfolding get_last_d
-word-continued s ns n k i b q h = ap (rankFrom s k) (walk-continued s ns (suc n) k i b q h)
+word_continued s ns n k i b q h = ap (rank_from s k) (walk_continued s ns (suc n) k i b q h)

@@ -7,9 +7,9 @@
 // callers have shown. What they answer is defined over the text of the slices.
 ghost use Rattle.std.specs.Prelude.{◌≡◌, ◌+◌, ◌≤◌, ◌<◌, length, get_or, take};
 ghost use Rattle.base.specs.Lists.{count_of, nth};
-ghost use Rattle.index.specs.Arrays.{Arrays, arrays, textIn};
-ghost use Rattle.words.specs.Words.{occurrencesBelow, frequency};
-ghost use Rattle.words.specs.Ready.{nodeFrom, Counted, Ready};
+ghost use Rattle.index.specs.Arrays.{Arrays, arrays, text_in};
+ghost use Rattle.words.specs.Words.{occurrences_below, frequency};
+ghost use Rattle.words.specs.Ready.{node_from, Counted, Ready};
 ghost use Rattle.words.specs.Steps.{StepIn};
 ghost use Rattle.ways.specs.Ways.{WayOf, TrackOf};
 
@@ -116,8 +116,8 @@ fn nth_in_node(
     j: usize,
     near: usize,
 ) -> Located
-    requires { Counted shape bytes.now superblocks.now blocks.now starts.now step.node × StepIn bytes.now starts.now step.node step.byte step × (j < count_of step.byte (nodeFrom bytes.now starts.now step.node)) }
-    ensures { result.at.0 ≡ nth step.byte j (nodeFrom bytes.now starts.now step.node) }
+    requires { Counted shape bytes.now superblocks.now blocks.now starts.now step.node × StepIn bytes.now starts.now step.node step.byte step × (j < count_of step.byte (node_from bytes.now starts.now step.node)) }
+    ensures { result.at.0 ≡ nth step.byte j (node_from bytes.now starts.now step.node) }
 {
     let node = step.node;
     let start = starts[node] as usize;
@@ -157,8 +157,8 @@ pub fn place_along(
 ) -> Next
     ghost a: { Arrays }
     requires blocks_value { arrays lengths.now bytes.now superblocks.now blocks.now ≡ a }
-    requires ready { Ready s shape a starts.now × (rank < shape.vocabulary) × WayOf s a.bytes starts.now rank way × (j < frequency (textIn s a) rank) }
-    ensures { result.place.0 ≡ nth rank j (textIn s a) }
+    requires ready { Ready s shape a starts.now × (rank < shape.vocabulary) × WayOf s a.bytes starts.now rank way × (j < frequency (text_in s a) rank) }
+    ensures { result.place.0 ≡ nth rank j (text_in s a) }
 {
     let first = way.first;
     let low = nth_in_node(
@@ -236,9 +236,9 @@ fn next_in_node(
     j: usize,
     near: usize,
 ) -> Located
-    requires { Counted shape bytes.now superblocks.now blocks.now starts.now step.node × StepIn bytes.now starts.now step.node step.byte step × (j < count_of step.byte (nodeFrom bytes.now starts.now step.node))
-        × (at.0 ≤ length (nodeFrom bytes.now starts.now step.node)) × (count_of step.byte (take at.0 (nodeFrom bytes.now starts.now step.node)) ≡ j) }
-    ensures { result.at.0 ≡ nth step.byte j (nodeFrom bytes.now starts.now step.node) }
+    requires { Counted shape bytes.now superblocks.now blocks.now starts.now step.node × StepIn bytes.now starts.now step.node step.byte step × (j < count_of step.byte (node_from bytes.now starts.now step.node))
+        × (at.0 ≤ length (node_from bytes.now starts.now step.node)) × (count_of step.byte (take at.0 (node_from bytes.now starts.now step.node)) ≡ j) }
+    ensures { result.at.0 ≡ nth step.byte j (node_from bytes.now starts.now step.node) }
 {
     let node = step.node;
     let start = starts[node] as usize;
@@ -278,9 +278,9 @@ fn piece_in_root(
     near: usize,
     exact: bool,
 ) -> Span
-    requires { Counted shape bytes.now superblocks.now blocks.now starts.now step.node × StepIn bytes.now starts.now step.node step.byte step × (j < count_of step.byte (nodeFrom bytes.now starts.now step.node))
+    requires { Counted shape bytes.now superblocks.now blocks.now starts.now step.node × StepIn bytes.now starts.now step.node step.byte step × (j < count_of step.byte (node_from bytes.now starts.now step.node))
         × (get_or starts.now step.node 0 ≡ 0) }
-    ensures { (result.from ≤ nth step.byte j (nodeFrom bytes.now starts.now step.node)) × (nth step.byte j (nodeFrom bytes.now starts.now step.node) < result.to) }
+    ensures { (result.from ≤ nth step.byte j (node_from bytes.now starts.now step.node)) × (nth step.byte j (node_from bytes.now starts.now step.node) < result.to) }
 {
     let block = shape.block;
     let per = shape.per_superblock;
@@ -318,8 +318,8 @@ pub fn track_from(
     rank: usize,
     place: Place,
 ) -> Track
-    requires ready { let a : Arrays = arrays lengths.now bytes.now superblocks.now blocks.now in Ready s shape a starts.now × (rank < shape.vocabulary) × (place.0 ≤ length (textIn s a)) }
-    ensures { let a : Arrays = arrays lengths.now bytes.now superblocks.now blocks.now in TrackOf s a.bytes starts.now rank result × (result.ordinal ≡ occurrencesBelow (textIn s a) rank place.0) }
+    requires ready { let a : Arrays = arrays lengths.now bytes.now superblocks.now blocks.now in Ready s shape a starts.now × (rank < shape.vocabulary) × (place.0 ≤ length (text_in s a)) }
+    ensures { let a : Arrays = arrays lengths.now bytes.now superblocks.now blocks.now in TrackOf s a.bytes starts.now rank result × (result.ordinal ≡ occurrences_below (text_in s a) rank place.0) }
 {
     let passed = words::count_below(
         s,
@@ -368,8 +368,8 @@ pub fn piece_along(
 ) -> Stretch
     ghost a: { Arrays }
     requires blocks_value { arrays lengths.now bytes.now superblocks.now blocks.now ≡ a }
-    requires ready { Ready s shape a starts.now × (rank < shape.vocabulary) × WayOf s a.bytes starts.now rank way × TrackOf s a.bytes starts.now rank track × (track.ordinal < frequency (textIn s a) rank) }
-    ensures { (result.from ≤ nth rank track.ordinal (textIn s a)) × (nth rank track.ordinal (textIn s a) < result.to)
+    requires ready { Ready s shape a starts.now × (rank < shape.vocabulary) × WayOf s a.bytes starts.now rank way × TrackOf s a.bytes starts.now rank track × (track.ordinal < frequency (text_in s a) rank) }
+    ensures { (result.from ≤ nth rank track.ordinal (text_in s a)) × (nth rank track.ordinal (text_in s a) < result.to)
         × TrackOf s a.bytes starts.now rank result.track × (result.track.ordinal ≡ track.ordinal + 1) }
 {
     let first = way.first;

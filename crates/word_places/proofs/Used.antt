@@ -7,21 +7,21 @@ use native.Mathlib.Omega.{arith}
 use native.Mathlib.Numerals.{add-one}
 use lib.ListN.{length, get_or, take, length-append}
 use lib.Seq.{take-suc}
-use Rattle.base.specs.Lists.{filterBy}
-use Rattle.base.proofs.Lists.{filter-append}
+use Rattle.base.specs.Lists.{filter_by}
+use Rattle.base.proofs.Lists.{filter_append}
 
 module _ (test : ℕ → Bool) (xs : List ℕ) (i : ℕ) (inside : i < length xs) where
   -- one element more
-  passed-more : length (filterBy test (take (i + 1) xs)) ≡ length (filterBy test (take i xs)) + length (filterBy test (get_or xs i 0 ∷ []))
-  passed-more =
-      ap (λ (n : ℕ). length (filterBy test (take n xs))) (add-one i)
-      ∙ ap (λ (ys : List ℕ). length (filterBy test ys)) (take-suc xs i 0 inside)
-      ∙ ap length (filter-append test (take i xs) (get_or xs i 0 ∷ []))
-      ∙ length-append (filterBy test (take i xs)) (filterBy test (get_or xs i 0 ∷ []))
+  passed_more : length (filter_by test (take (i + 1) xs)) ≡ length (filter_by test (take i xs)) + length (filter_by test (get_or xs i 0 ∷ []))
+  passed_more =
+      ap (λ (n : ℕ). length (filter_by test (take n xs))) (add-one i)
+      ∙ ap (λ (ys : List ℕ). length (filter_by test ys)) (take-suc xs i 0 inside)
+      ∙ ap length (filter_append test (take i xs) (get_or xs i 0 ∷ []))
+      ∙ length-append (filter_by test (take i xs)) (filter_by test (get_or xs i 0 ∷ []))
 
   -- that passes, and that does not
-  pub passed-yes : test (get_or xs i 0) ≡ true → length (filterBy test (take (i + 1) xs)) ≡ length (filterBy test (take i xs)) + 1
-  passed-yes e = passed-more ∙ ap (λ (t : Bool). length (filterBy test (take i xs)) + length (cond t (get_or xs i 0 ∷ []) [])) e
+  pub passed_yes : test (get_or xs i 0) ≡ true → length (filter_by test (take (i + 1) xs)) ≡ length (filter_by test (take i xs)) + 1
+  passed_yes e = passed_more ∙ ap (λ (t : Bool). length (filter_by test (take i xs)) + length (cond t (get_or xs i 0 ∷ []) [])) e
 
-  pub passed-no : test (get_or xs i 0) ≡ false → length (filterBy test (take (i + 1) xs)) ≡ length (filterBy test (take i xs))
-  passed-no e = passed-more ∙ ap (λ (t : Bool). length (filterBy test (take i xs)) + length (cond t (get_or xs i 0 ∷ []) [])) e ∙ omega arith
+  pub passed_no : test (get_or xs i 0) ≡ false → length (filter_by test (take (i + 1) xs)) ≡ length (filter_by test (take i xs))
+  passed_no e = passed_more ∙ ap (λ (t : Bool). length (filter_by test (take i xs)) + length (cond t (get_or xs i 0 ∷ []) [])) e ∙ omega arith

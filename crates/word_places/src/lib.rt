@@ -1,12 +1,12 @@
 // The places of the words of a text: where each word begins, the place at which it appears first, and
 // how often it stands; with every letter table that keeps the rules.
 ghost use Rattle.std.specs.Prelude.{◌≡◌, true, cond, suc, ◌-◌, ◌≤◌, ◌<◌, ltb, length, get_or, set, take};
-ghost use Rattle.base.specs.Lists.{Below, filterBy};
-ghost use Rattle.lexicon.specs.Letters.{isTable};
+ghost use Rattle.base.specs.Lists.{Below, filter_by};
+ghost use Rattle.lexicon.specs.Letters.{is_table};
 ghost use Rattle.lexicon.specs.Reading.{spellings};
-ghost use Rattle.scanning.specs.Scans.{buckets, bucketOf};
+ghost use Rattle.scanning.specs.Scans.{buckets, bucket_of};
 ghost use Rattle.counting_sort.specs.Sorting.{Cleared, Histogram};
-ghost use Rattle.word_places.specs.Places.{word_of, DistinctChained, Begun, earlierPlace, TextNoted};
+ghost use Rattle.word_places.specs.Places.{word_of, DistinctChained, Begun, earlier_place, TextNoted};
 
 // Looks the word at a place up among those before it, of which the distinct ones are in a hash table: 1
 // and the place at which it appears first, 0 where it has not appeared before.
@@ -19,8 +19,8 @@ fn find_earlier(
     place: usize,
     bucket: usize,
 ) -> usize
-    requires { (isTable table.now ≡ true) × (place < length (spellings table.now text.now)) × Begun table.now text.now (suc place) starts.now × DistinctChained (spellings table.now text.now) place heads.now links.now × (place ≤ length links.now) × (bucket ≡ bucketOf (word_of (spellings table.now text.now) place)) }
-    ensures { result ≡ earlierPlace (spellings table.now text.now) place }
+    requires { (is_table table.now ≡ true) × (place < length (spellings table.now text.now)) × Begun table.now text.now (suc place) starts.now × DistinctChained (spellings table.now text.now) place heads.now links.now × (place ≤ length links.now) × (bucket ≡ bucket_of (word_of (spellings table.now text.now) place)) }
+    ensures { result ≡ earlier_place (spellings table.now text.now) place }
 {
     let start = starts[place];
     let mut other = heads[bucket] as usize;
@@ -64,7 +64,7 @@ pub fn note_words(
     starts: &mut [usize],
     firsts: &mut [u32],
 ) -> usize
-    requires { (isTable table.now ≡ true) × (length heads.old ≡ buckets) × Cleared heads.old × (length (spellings table.now text.now) ≤ length links.old) × (length (spellings table.now text.now) ≤ length starts.old) × (length (spellings table.now text.now) ≤ length firsts.old) × (length (spellings table.now text.now) < 4294967295) }
+    requires { (is_table table.now ≡ true) × (length heads.old ≡ buckets) × Cleared heads.old × (length (spellings table.now text.now) ≤ length links.old) × (length (spellings table.now text.now) ≤ length starts.old) × (length (spellings table.now text.now) ≤ length firsts.old) × (length (spellings table.now text.now) < 4294967295) }
     ensures { TextNoted table.now text.now starts.new firsts.new result }
 {
     let mut at = scanning::word_start(table, text, 0);
@@ -86,7 +86,7 @@ pub fn note_words(
 // How many of the first so many counts are above 0.
 fn count_used(counts: &[u32], size: usize) -> usize
     requires { size ≤ length counts.now }
-    ensures { result ≡ length (filterBy (ltb 0) (take size counts.now)) }
+    ensures { result ≡ length (filter_by (ltb 0) (take size counts.now)) }
 {
     let mut used: usize = 0;
     let mut place: usize = 0;
@@ -102,7 +102,7 @@ fn count_used(counts: &[u32], size: usize) -> usize
 // Counts in a clear table how often each of so many places is noted, and gives how many are.
 pub fn count_places(firsts: &[u32], size: usize, counts: &mut [u32]) -> usize
     requires { (size < 4294967296) × (size ≤ length firsts.now) × (size ≤ length counts.old) × Below (length counts.old) (take size firsts.now) × Cleared counts.old }
-    ensures { Histogram (take size firsts.now) counts.new × (result ≡ length (filterBy (ltb 0) (take size counts.new))) }
+    ensures { Histogram (take size firsts.now) counts.new × (result ≡ length (filter_by (ltb 0) (take size counts.new))) }
 {
     counting_sort::count_values(firsts, size, counts);
     count_used(counts, size)

@@ -5,11 +5,11 @@ use native.Mathlib.Omega.{arith}
 use lib.ListN.{take}
 use lib.Seq.{take-length}
 use Rattle.base.specs.Lists.{count_of, nth}
-use Rattle.base.proofs.Counts.{Found, nth-found, nth_here}
+use Rattle.base.proofs.Counts.{Found, nth_found, nth_here}
 use Rattle.words.specs.Words.{frequency, KindsAgree}
 
-pub kinds-agree : KindsAgree
-kinds-agree t w = record {
+pub kinds_agree : KindsAgree
+kinds_agree t w = record {
   inside = λ j least most. (found j least most).inside;
   stands = λ j least most. (found j least most).stands;
   before = λ j least most. (found j least most).before;
@@ -20,4 +20,4 @@ kinds-agree t w = record {
 }
   where
     found : (j : ℕ) → 1 ≤ j → j ≤ frequency t w → Found w (j - 1) t
-    found j least most = nth-found w (j - 1) t (omega arith)
+    found j least most = nth_found w (j - 1) t (omega arith)

@@ -2,5 +2,5 @@
 use mathlib.Core.Path.{refl}
 use Rattle.words.specs.Samples.{WordSamples}
 
-pub word-samples : WordSamples
-word-samples = record { belowFour = refl; secondPlace = refl; first_word = refl; lastWord = refl; counted = refl; often = refl; places = refl }
+pub word_samples : WordSamples
+word_samples = record { below_four = refl; second_place = refl; first_word = refl; last_word = refl; counted = refl; often = refl; places = refl }

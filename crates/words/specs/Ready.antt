@@ -3,7 +3,7 @@ use Rattle.std.specs.Prelude.{ℕ, suc, ◌-◌, ◌≤◌, ◌<◌, ◌≡◌, 
 use Rattle.dense.specs.Code.{Closing}
 use Rattle.directory.specs.Counters.{Sizes, Directory}
 use Rattle.index.specs.declared.Shape.{Shape}
-use Rattle.index.specs.Arrays.{Arrays, arrays, textIn, passes}
+use Rattle.index.specs.Arrays.{Arrays, arrays, text_in, passes}
 use Rattle.starts.specs.Starts.{NodeStarts}
 use Rattle.index.specs.Exact.{WithinLimits}
 
@@ -17,8 +17,8 @@ pub record Checked (s : ℕ) (shape : Shape) (a : Arrays) : Type 0 where
   pub passed : passes s shape a ≡ true
 
 -- the bytes of node k by a table of node starts: from its start on, as many as lie before the next start
-abbrev pub nodeFrom : List ℕ → List ℕ → ℕ → List ℕ
-nodeFrom bytes starts k = take (get_or starts (suc k) 0 - get_or starts k 0) (drop (get_or starts k 0) bytes)
+abbrev pub node_from : List ℕ → List ℕ → ℕ → List ℕ
+node_from bytes starts k = take (get_or starts (suc k) 0 - get_or starts k 0) (drop (get_or starts k 0) bytes)
 
 -- node k of such a table starts inside the bytes or at their end, and the counters are those of the bytes
 pub record Counted (shape : Shape) (bytes superblocks blocks starts : List ℕ) (k : ℕ) : Type 0 where
@@ -36,4 +36,4 @@ pub record Ready (s : ℕ) (shape : Shape) (a : Arrays) (starts : List ℕ) : Ty
 abbrev pub WordsOf : List ℕ → ℕ → Type 0
 WordsOf lengths n =
     (s : ℕ) (shape : Shape) (ys us ks : List ℕ) → Checked s shape (arrays lengths ys us ks) →
-    n ≡ length (textIn s (arrays lengths ys us ks))
+    n ≡ length (text_in s (arrays lengths ys us ks))

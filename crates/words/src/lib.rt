@@ -7,10 +7,10 @@
 // callers have shown. What they answer is defined over the text of the slices.
 ghost use Rattle.std.specs.Prelude.{◌≡◌, ◌≤◌, ◌<◌, length, get_or, take};
 ghost use Rattle.base.specs.Lists.{count_of};
-ghost use Rattle.tree.specs.Nodes.{position, nodeOf, closingByte};
-ghost use Rattle.index.specs.Arrays.{Arrays, arrays, textIn};
-ghost use Rattle.words.specs.Words.{rank_at, occurrencesBelow, frequency};
-ghost use Rattle.words.specs.Ready.{nodeFrom, Counted, Ready, WordsOf};
+ghost use Rattle.tree.specs.Nodes.{position, node_of, closing_byte};
+ghost use Rattle.index.specs.Arrays.{Arrays, arrays, text_in};
+ghost use Rattle.words.specs.Words.{rank_at, occurrences_below, frequency};
+ghost use Rattle.words.specs.Ready.{node_from, Counted, Ready, WordsOf};
 ghost use Rattle.words.specs.Steps.{StepIn, BelowOf};
 
 use index::Shape;
@@ -26,8 +26,8 @@ pub fn text_length(lengths: &[u32]) -> usize
 
 // The byte at a position of a node.
 fn byte_at(bytes: &[u8], starts: &[u32], node: usize, at: Position) -> u8
-    requires { (node < length starts.now) × (at.0 < length (nodeFrom bytes.now starts.now node)) }
-    ensures { result ≡ get_or (nodeFrom bytes.now starts.now node) at.0 0 }
+    requires { (node < length starts.now) × (at.0 < length (node_from bytes.now starts.now node)) }
+    ensures { result ≡ get_or (node_from bytes.now starts.now node) at.0 0 }
 {
     let start = starts[node] as usize;
     bytes[start + at.0]
@@ -77,8 +77,8 @@ fn count_in_step(
     step: Step,
     at: Position,
 ) -> usize
-    requires { Counted shape bytes.now superblocks.now blocks.now starts.now step.node × StepIn bytes.now starts.now step.node step.byte step × (at.0 ≤ length (nodeFrom bytes.now starts.now step.node)) }
-    ensures { result ≡ count_of step.byte (take at.0 (nodeFrom bytes.now starts.now step.node)) }
+    requires { Counted shape bytes.now superblocks.now blocks.now starts.now step.node × StepIn bytes.now starts.now step.node step.byte step × (at.0 ≤ length (node_from bytes.now starts.now step.node)) }
+    ensures { result ≡ count_of step.byte (take at.0 (node_from bytes.now starts.now step.node)) }
 {
     let node = step.node;
     let start = starts[node] as usize;
@@ -101,8 +101,8 @@ fn count_in_node(
     byte: u8,
     at: Position,
 ) -> usize
-    requires { Counted shape bytes.now superblocks.now blocks.now starts.now node × (at.0 ≤ length (nodeFrom bytes.now starts.now node)) }
-    ensures { result ≡ count_of byte (take at.0 (nodeFrom bytes.now starts.now node)) }
+    requires { Counted shape bytes.now superblocks.now blocks.now starts.now node × (at.0 ≤ length (node_from bytes.now starts.now node)) }
+    ensures { result ≡ count_of byte (take at.0 (node_from bytes.now starts.now node)) }
 {
     let step = step_in(shape, bytes, superblocks, blocks, starts, node, byte);
     count_in_step(shape, bytes, superblocks, blocks, starts, step, at)
@@ -120,8 +120,8 @@ fn position_in(
     node: usize,
     place: Place,
 ) -> Position
-    requires ready { let a : Arrays = arrays lengths.now bytes.now superblocks.now blocks.now in Ready s shape a starts.now × (node < length lengths.now) × (place.0 ≤ length (textIn s a)) }
-    ensures { let a : Arrays = arrays lengths.now bytes.now superblocks.now blocks.now in result.0 ≡ position s node place.0 (textIn s a) }
+    requires ready { let a : Arrays = arrays lengths.now bytes.now superblocks.now blocks.now in Ready s shape a starts.now × (node < length lengths.now) × (place.0 ≤ length (text_in s a)) }
+    ensures { let a : Arrays = arrays lengths.now bytes.now superblocks.now blocks.now in result.0 ≡ position s node place.0 (text_in s a) }
 {
     if node == 0 {
         return tree::root_position(place);
@@ -155,8 +155,8 @@ pub fn word_at(
 ) -> u32
     ghost a: { Arrays }
     requires blocks_value { arrays lengths.now bytes.now superblocks.now blocks.now ≡ a }
-    requires ready { Ready s shape a starts.now × (place.0 < length (textIn s a)) }
-    ensures { result ≡ rank_at (textIn s a) place.0 }
+    requires ready { Ready s shape a starts.now × (place.0 < length (text_in s a)) }
+    ensures { result ≡ rank_at (text_in s a) place.0 }
 {
     let least = 256 - s;
     let mut node = 0;
@@ -194,8 +194,8 @@ pub fn count_below(
 ) -> Below
     ghost a: { Arrays }
     requires blocks_value { arrays lengths.now bytes.now superblocks.now blocks.now ≡ a }
-    requires ready { Ready s shape a starts.now × (rank < shape.vocabulary) × (place.0 ≤ length (textIn s a)) }
-    ensures { BelowOf s a.bytes starts.now rank result × (result.count ≡ occurrencesBelow (textIn s a) rank place.0) }
+    requires ready { Ready s shape a starts.now × (rank < shape.vocabulary) × (place.0 ≤ length (text_in s a)) }
+    ensures { BelowOf s a.bytes starts.now rank result × (result.count ≡ occurrences_below (text_in s a) rank place.0) }
 {
     let node = tree::node_of(s, rank);
     let byte = tree::closing_byte(s, rank);
@@ -226,8 +226,8 @@ pub fn occurrences_below(
     rank: usize,
     place: Place,
 ) -> usize
-    requires ready { let a : Arrays = arrays lengths.now bytes.now superblocks.now blocks.now in Ready s shape a starts.now × (rank < shape.vocabulary) × (place.0 ≤ length (textIn s a)) }
-    ensures { let a : Arrays = arrays lengths.now bytes.now superblocks.now blocks.now in result ≡ occurrencesBelow (textIn s a) rank place.0 }
+    requires ready { let a : Arrays = arrays lengths.now bytes.now superblocks.now blocks.now in Ready s shape a starts.now × (rank < shape.vocabulary) × (place.0 ≤ length (text_in s a)) }
+    ensures { let a : Arrays = arrays lengths.now bytes.now superblocks.now blocks.now in result ≡ occurrences_below (text_in s a) rank place.0 }
 {
     count_below(
         s,
@@ -258,8 +258,8 @@ pub fn frequency_by(
 ) -> usize
     ghost a: { Arrays }
     requires blocks_value { arrays lengths.now bytes.now superblocks.now blocks.now ≡ a }
-    requires ready { Ready s shape a starts.now × (rank < shape.vocabulary) × StepIn a.bytes starts.now (nodeOf s rank) (closingByte s rank) first }
-    ensures { result ≡ frequency (textIn s a) rank }
+    requires ready { Ready s shape a starts.now × (rank < shape.vocabulary) × StepIn a.bytes starts.now (node_of s rank) (closing_byte s rank) first }
+    ensures { result ≡ frequency (text_in s a) rank }
 {
     let node = first.node;
     let size = lengths[node] as usize;
@@ -281,7 +281,7 @@ pub fn frequency(
     ghost a: { Arrays }
     requires blocks_value { arrays lengths.now bytes.now superblocks.now blocks.now ≡ a }
     requires ready { Ready s shape a starts.now × (rank < shape.vocabulary) }
-    ensures { result ≡ frequency (textIn s a) rank }
+    ensures { result ≡ frequency (text_in s a) rank }
 {
     let node = tree::node_of(s, rank);
     let byte = tree::closing_byte(s, rank);

@@ -3,10 +3,10 @@
 ghost use Rattle.std.specs.Prelude.{◌≡◌, ◌≤◌, length};
 ghost use Rattle.dense.specs.Code.{Closing};
 ghost use Rattle.dense.specs.Streams.{stream};
-ghost use Rattle.directory.specs.Counters.{maxBytes};
+ghost use Rattle.directory.specs.Counters.{max_bytes};
 ghost use Rattle.index.specs.Arrays.{arrays, index_of};
 ghost use Rattle.index.specs.Exact.{WithinLimits};
-ghost use Rattle.writing.specs.Slices.{tooShort, Buildable, fronts};
+ghost use Rattle.writing.specs.Slices.{too_short, Buildable, fronts};
 
 use index::Shape;
 
@@ -20,8 +20,8 @@ pub fn too_short(
     superblocks: &[u32],
     blocks: &[u16],
 ) -> bool
-    requires { Closing s × WithinLimits s shape × (needed ≤ maxBytes) }
-    ensures { result ≡ tooShort s shape needed (arrays lengths.now bytes.now superblocks.now blocks.now) }
+    requires { Closing s × WithinLimits s shape × (needed ≤ max_bytes) }
+    ensures { result ≡ too_short s shape needed (arrays lengths.now bytes.now superblocks.now blocks.now) }
 {
     let nodes = tree::node_count(s, shape.vocabulary);
     let superblock_rows = tallies::row_count(needed, shape.block * shape.per_superblock);

@@ -5,15 +5,15 @@ use mathlib.Core.Path.{◌≡◌}
 use native.Mathlib.Omega.{arith}
 use borrow.Author.Rules.{rules}
 use lib.ListN.{length, get_or}
-use Rattle.base.proofs.Lists.{all-at}
+use Rattle.base.proofs.Lists.{all_at}
 use Rattle.base.proofs.Tests.{below_or_not}
-use Rattle.index.specs.Arrays.{arrays, textIn}
+use Rattle.index.specs.Arrays.{arrays, text_in}
 use Rattle.base.specs.Lists.{count_of}
 use Rattle.anchors.proofs.rarest.Statement.{statement}
 use Rattle.anchors.proofs.rarest.Tie as tie
 
 abbrev invariant-loop : tie.invariant-loop
-invariant-loop s shape lengths bytes superblocks blocks starts words rare₀ first least₀ i₀ rare least i = (i ≤ length words) × (rare < i) × (least ≡ count_of (get_or words rare 0) (textIn s (arrays lengths bytes superblocks blocks))) × ((k : ℕ) → k < i → least ≤ count_of (get_or words k 0) (textIn s (arrays lengths bytes superblocks blocks)))
+invariant-loop s shape lengths bytes superblocks blocks starts words rare₀ first least₀ i₀ rare least i = (i ≤ length words) × (rare < i) × (least ≡ count_of (get_or words rare 0) (text_in s (arrays lengths bytes superblocks blocks))) × ((k : ℕ) → k < i → least ≤ count_of (get_or words k 0) (text_in s (arrays lengths bytes superblocks blocks)))
 
 abbrev decreases-loop : tie.decreases-loop
 decreases-loop s shape lengths bytes superblocks blocks starts words rare₀ first least₀ i₀ rare least i = length words - i
@@ -27,12 +27,12 @@ cast-first c = omega (arith, c.shared-slice-known7.given 0)
 frequency-requires : tie.Need-frequency-requires invariant-loop decreases-loop
 frequency-requires c κs =
     let st = c.before.before.before.before.before.before.before in
-    (st.requires.ready, all-at (λ (x : ℕ). x < st.args.shape.vocabulary) st.args.words.now 0 0 st.requires.below st.requires.some)
+    (st.requires.ready, all_at (λ (x : ℕ). x < st.args.shape.vocabulary) st.args.words.now 0 0 st.requires.below st.requires.some)
 
 loop-holds : tie.Need-loop-init invariant-loop decreases-loop
 loop-holds c =
     let st = c.before.before.before.before.before.before.before.before in
-    let t = textIn st.args.s (arrays st.args.lengths.now st.args.bytes.now st.args.superblocks.now st.args.blocks.now) in (
+    let t = text_in st.args.s (arrays st.args.lengths.now st.args.bytes.now st.args.superblocks.now st.args.blocks.now) in (
       st.requires.some,
       omega arith,
       c.frequency.ensures,
@@ -51,7 +51,7 @@ cast-w c = omega (arith, c.shared-slice-known8.given c.before.before.loop.i)
 frequency-requires-2 : tie.Need-frequency-requires-2 invariant-loop decreases-loop
 frequency-requires-2 c κs =
     let st = c.before.before.before.before.before.before.before.before.before.before.before in
-    (st.requires.ready, all-at (λ (x : ℕ). x < st.args.shape.vocabulary) st.args.words.now 0 c.before.before.loop.i st.requires.below (omega arith))
+    (st.requires.ready, all_at (λ (x : ℕ). x < st.args.shape.vocabulary) st.args.words.now 0 c.before.before.loop.i st.requires.below (omega arith))
 
 add-i : tie.Need-overflow-add-i invariant-loop decreases-loop
 add-i c = search rules
@@ -62,7 +62,7 @@ loop-less c = search rules
 loop-again : tie.Need-loop-preserved invariant-loop decreases-loop
 loop-again c =
     let st = c.before.before.before.before.before.before.before.before.before.before.before.before.before in
-    let t = textIn st.args.s (arrays st.args.lengths.now st.args.bytes.now st.args.superblocks.now st.args.blocks.now) in
+    let t = text_in st.args.s (arrays st.args.lengths.now st.args.bytes.now st.args.superblocks.now st.args.blocks.now) in
     let l = c.before.before.before.before.loop in
     let ws = st.args.words.now in
     let often = c.before.frequency2.ensures in (
@@ -79,7 +79,7 @@ loop-again c =
 returns : tie.Need-returns invariant-loop decreases-loop
 returns c =
     let st = c.before.before.before.before.before.before.before.before.before.before in
-    let t = textIn st.args.s (arrays st.args.lengths.now st.args.bytes.now st.args.superblocks.now st.args.blocks.now) in
+    let t = text_in st.args.s (arrays st.args.lengths.now st.args.bytes.now st.args.superblocks.now st.args.blocks.now) in
     let l = c.before.loop in
     record { inside = omega arith; least = λ k h. omega (arith, l.invariant.2, l.invariant.3 k (omega arith)) }
 

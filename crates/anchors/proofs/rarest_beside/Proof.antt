@@ -3,7 +3,7 @@ use Prim.Native.Nat.{ℕ, ◌<◌, ◌-◌}
 use mathlib.Core.Logic.{⊎_elim}
 use native.Mathlib.Omega.{arith}
 use lib.ListN.{length}
-use Rattle.base.proofs.Lists.{all-at}
+use Rattle.base.proofs.Lists.{all_at}
 use borrow.Author.Rules.{rules}
 use Rattle.anchors.proofs.rarest_beside.Statement.{statement}
 use Rattle.anchors.proofs.rarest_beside.Tie as tie
@@ -29,7 +29,7 @@ cast-w c = omega (arith, c.shared-slice-known7.given c.before.before.loop.i)
 in-root-requires : tie.Need-in-root-requires invariant-loop decreases-loop
 in-root-requires c κs =
     let st = c.before.before.before.before.before.before.before.before.before in
-    (st.requires.0.ready, all-at (λ (x : ℕ). x < st.args.shape.vocabulary) st.args.words.now 0 c.before.before.loop.i st.requires.0.below (omega arith))
+    (st.requires.0.ready, all_at (λ (x : ℕ). x < st.args.shape.vocabulary) st.args.words.now 0 c.before.before.loop.i st.requires.0.below (omega arith))
 
 add-i : tie.Need-overflow-add-i invariant-loop decreases-loop
 add-i c = search rules

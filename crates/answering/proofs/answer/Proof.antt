@@ -4,8 +4,8 @@ use mir.Facts.{to_z-of_z}
 use mathlib.Core.Path.{sym, ap, ◌∙◌}
 use borrow.Author.Rules.{rules}
 use Rattle.base.specs.Answers.{refused}
-use Rattle.questions.proofs.Answered.{kind_1, kind_2, kind_3, kind-4, kind-5, kind-none}
-use Rattle.questions.specs.Answering.{neighboursAnswer}
+use Rattle.questions.proofs.Answered.{kind_1, kind_2, kind_3, kind_4, kind_5, kind_none}
+use Rattle.questions.specs.Answering.{neighbours_answer}
 use Rattle.answering.proofs.answer.Statement.{statement}
 use Rattle.answering.proofs.answer.Tie as tie
 
@@ -42,7 +42,7 @@ answer-neighbours-requires c κs = search rules
 returns-4 : tie.Need-returns-4
 returns-4 c =
     let st = c.before.before.before.before.before.before.before.before.before.before.before.before.before.before in
-    c.answer-neighbours.ensures ∙ ap (neighboursAnswer st.args.shape.vocabulary _ st.args.documents.now st.args.question.w st.args.question.v) (to_z-of_z {w = w32} {z = st.args.question.d} (record { sfits = c.before.struct_told.given.1.1.1.0.1 })) ∙ sym (kind-4 st.args.shape.vocabulary _ st.args.documents.now st.args.words.now st.args.question c.before.before.if4.true)
+    c.answer-neighbours.ensures ∙ ap (neighbours_answer st.args.shape.vocabulary _ st.args.documents.now st.args.question.w st.args.question.v) (to_z-of_z {w = w32} {z = st.args.question.d} (record { sfits = c.before.struct_told.given.1.1.1.0.1 })) ∙ sym (kind_4 st.args.shape.vocabulary _ st.args.documents.now st.args.words.now st.args.question c.before.before.if4.true)
 
 answer-phrase-requires : tie.Need-answer-phrase-requires
 answer-phrase-requires c κs = search rules
@@ -50,7 +50,7 @@ answer-phrase-requires c κs = search rules
 returns-5 : tie.Need-returns-5
 returns-5 c =
     let st = c.before.before.before.before.before.before.before.before.before.before.before.before.before.before in
-    c.answer-phrase.ensures ∙ sym (kind-5 st.args.shape.vocabulary _ st.args.documents.now st.args.words.now st.args.question c.before.if5.true)
+    c.answer-phrase.ensures ∙ sym (kind_5 st.args.shape.vocabulary _ st.args.documents.now st.args.words.now st.args.question c.before.if5.true)
 
 refused-requires : tie.Need-refused-requires
 refused-requires c κs = search rules
@@ -58,7 +58,7 @@ refused-requires c κs = search rules
 returns-6 : tie.Need-returns-6
 returns-6 c =
     let st = c.before.before.before.before.before.before.before.before.before.before.before.before.before.before in
-    c.refused.ensures ∙ sym (kind-none st.args.shape.vocabulary _ st.args.documents.now st.args.words.now st.args.question c.before.before.before.before.before.if1.false c.before.before.before.before.if2.false c.before.before.before.if3.false c.before.before.if4.false c.before.if5.false)
+    c.refused.ensures ∙ sym (kind_none st.args.shape.vocabulary _ st.args.documents.now st.args.words.now st.args.question c.before.before.before.before.before.if1.false c.before.before.before.before.if2.false c.before.before.before.if3.false c.before.before.if4.false c.before.if5.false)
 
 pub answer-spec : {M : Type 1} → statement M
 answer-spec =

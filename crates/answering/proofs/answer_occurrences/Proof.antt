@@ -4,13 +4,13 @@ use mathlib.Core.Path.{sym, ap, ◌∙◌}
 use mathlib.Core.List.{[]}
 use native.Mathlib.Omega.{arith}
 use borrow.Author.Rules.{rules}
-use Rattle.index.specs.Arrays.{arrays, textIn}
-use Rattle.words.specs.Words.{occurrencesBelow}
-use Rattle.words.proofs.Parts.{checked-some}
-use Rattle.words.proofs.Positions.{ranks-below}
-use Rattle.documents.proofs.Absent.{absent-words}
+use Rattle.index.specs.Arrays.{arrays, text_in}
+use Rattle.words.specs.Words.{occurrences_below}
+use Rattle.words.proofs.Parts.{checked_some}
+use Rattle.words.proofs.Positions.{ranks_below_lem}
+use Rattle.documents.proofs.Absent.{absent_words}
 use Rattle.base.specs.Answers.{accepted, refused}
-use Rattle.questions.proofs.Answered.{occurrences-rank, occurrences-outside, occurrences-inside}
+use Rattle.questions.proofs.Answered.{occurrences_rank, occurrences_outside, occurrences_inside}
 use Rattle.answering.proofs.answer_occurrences.Statement.{statement}
 use Rattle.answering.proofs.answer_occurrences.Tie as tie
 
@@ -20,10 +20,10 @@ refused-requires c κs = search rules
 returns : tie.Need-returns
 returns c =
     let st = c.before.before.before.before.before.before.before.before in
-    c.refused.ensures ∙ sym (occurrences-rank st.args.shape.vocabulary _ st.args.rank st.args.place c.before.if1.true)
+    c.refused.ensures ∙ sym (occurrences_rank st.args.shape.vocabulary _ st.args.rank st.args.place c.before.if1.true)
 
 text-length-requires : tie.Need-text-length-requires
-text-length-requires c κs = checked-some c.before.before.before.before.before.before.before.requires.checked
+text-length-requires c κs = checked_some c.before.before.before.before.before.before.before.requires.checked
 
 refused-requires-2 : tie.Need-refused-requires-2
 refused-requires-2 c κs = search rules
@@ -32,7 +32,7 @@ returns-2 : tie.Need-returns-2
 returns-2 c =
     let st = c.before.before.before.before.before.before.before.before.before.before in
     let n = c.before.before.text-length.ensures.1 _ _ _ _ _ st.requires.checked in
-    c.refused2.ensures ∙ sym (occurrences-outside st.args.shape.vocabulary _ st.args.rank st.args.place c.before.before.before.if1.false (omega (arith, n, c.before.if2.true)))
+    c.refused2.ensures ∙ sym (occurrences_outside st.args.shape.vocabulary _ st.args.rank st.args.place c.before.before.before.if1.false (omega (arith, n, c.before.if2.true)))
 
 -- an absent word is counted nowhere
 accepted-requires : tie.Need-accepted-requires
@@ -43,10 +43,10 @@ returns-3 c =
     let st = c.before.before.before.before.before.before.before.before.before.before.before.before in
     let n = c.before.before.before.before.text-length.ensures.1 _ _ _ _ _ st.requires.checked in
     let v = st.args.shape.vocabulary in
-    let t = textIn st.args.s (arrays st.args.lengths.now st.args.bytes.now st.args.superblocks.now st.args.blocks.now) in
+    let t = text_in st.args.s (arrays st.args.lengths.now st.args.bytes.now st.args.superblocks.now st.args.blocks.now) in
     c.accepted.ensures
-    ∙ ap accepted (sym (ap (λ (w : ℕ). occurrencesBelow t w st.args.place) c.before.if3.true ∙ (absent-words v [] t (ranks-below st.requires.checked)).below st.args.place))
-    ∙ sym (occurrences-inside v t st.args.rank st.args.place c.before.before.before.before.before.if1.false (omega (arith, n, c.before.before.before.if2.false)))
+    ∙ ap accepted (sym (ap (λ (w : ℕ). occurrences_below t w st.args.place) c.before.if3.true ∙ (absent_words v [] t (ranks_below_lem st.requires.checked)).below st.args.place))
+    ∙ sym (occurrences_inside v t st.args.rank st.args.place c.before.before.before.before.before.if1.false (omega (arith, n, c.before.before.before.if2.false)))
 
 occurrences-below-requires : tie.Need-occurrences-below-requires
 occurrences-below-requires c κs =
@@ -61,7 +61,7 @@ returns-4 : tie.Need-returns-4
 returns-4 c =
     let st = c.before.before.before.before.before.before.before.before.before.before.before.before.before in
     let n = c.before.before.before.before.before.text-length.ensures.1 _ _ _ _ _ st.requires.checked in
-    c.accepted2.ensures ∙ ap accepted c.before.occurrences-below.ensures ∙ sym (occurrences-inside st.args.shape.vocabulary _ st.args.rank st.args.place c.before.before.before.before.before.before.if1.false (omega (arith, n, c.before.before.before.before.if2.false)))
+    c.accepted2.ensures ∙ ap accepted c.before.occurrences-below.ensures ∙ sym (occurrences_inside st.args.shape.vocabulary _ st.args.rank st.args.place c.before.before.before.before.before.before.if1.false (omega (arith, n, c.before.before.before.before.if2.false)))
 
 pub answer-occurrences-spec : {M : Type 1} → statement M
 answer-occurrences-spec =

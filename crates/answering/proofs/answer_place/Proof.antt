@@ -4,13 +4,13 @@ use mathlib.Core.Path.{sym, ap, ◌∙◌}
 use mathlib.Core.List.{[]}
 use native.Mathlib.Omega.{arith}
 use borrow.Author.Rules.{rules}
-use Rattle.index.specs.Arrays.{arrays, textIn}
+use Rattle.index.specs.Arrays.{arrays, text_in}
 use Rattle.base.specs.Answers.{accepted, refused}
-use Rattle.questions.proofs.Answered.{place-rank, place-outside, place-never, place_inside}
+use Rattle.questions.proofs.Answered.{place_rank, place_outside, place_never, place_inside}
 use Rattle.words.specs.Words.{frequency}
-use Rattle.words.proofs.Positions.{ranks-below}
-use Rattle.documents.proofs.Absent.{absent-words}
-use Rattle.base.proofs.Tests.{below-range, above-range}
+use Rattle.words.proofs.Positions.{ranks_below_lem}
+use Rattle.documents.proofs.Absent.{absent_words}
+use Rattle.base.proofs.Tests.{below_range, above_range}
 use Rattle.answering.proofs.answer_place.Statement.{statement}
 use Rattle.answering.proofs.answer_place.Tie as tie
 
@@ -20,7 +20,7 @@ refused-requires c κs = search rules
 returns : tie.Need-returns
 returns c =
     let st = c.before.before.before.before.before.before.before.before in
-    c.refused.ensures ∙ sym (place-rank st.args.shape.vocabulary _ st.args.rank st.args.p c.before.if1.true)
+    c.refused.ensures ∙ sym (place_rank st.args.shape.vocabulary _ st.args.rank st.args.p c.before.if1.true)
 
 -- an absent word has no place
 refused-requires-2 : tie.Need-refused-requires-2
@@ -30,9 +30,9 @@ returns-2 : tie.Need-returns-2
 returns-2 c =
     let st = c.before.before.before.before.before.before.before.before.before.before in
     let v = st.args.shape.vocabulary in
-    let t = textIn st.args.s (arrays st.args.lengths.now st.args.bytes.now st.args.superblocks.now st.args.blocks.now) in
+    let t = text_in st.args.s (arrays st.args.lengths.now st.args.bytes.now st.args.superblocks.now st.args.blocks.now) in
     c.refused2.ensures
-    ∙ sym (place-never v t st.args.rank st.args.p c.before.before.before.if1.false (ap (frequency t) (sym c.before.if2.true) ∙ (absent-words v [] t (ranks-below st.requires.checked)).never))
+    ∙ sym (place_never v t st.args.rank st.args.p c.before.before.before.if1.false (ap (frequency t) (sym c.before.if2.true) ∙ (absent_words v [] t (ranks_below_lem st.requires.checked)).never))
 
 refused-requires-3 : tie.Need-refused-requires-3
 refused-requires-3 c κs = search rules
@@ -40,7 +40,7 @@ refused-requires-3 c κs = search rules
 returns-3 : tie.Need-returns-3
 returns-3 c =
     let st = c.before.before.before.before.before.before.before.before.before.before.before in
-    c.refused3.ensures ∙ sym (place-outside st.args.shape.vocabulary _ st.args.rank st.args.p c.before.before.before.before.if1.false (below-range 1 _ st.args.p c.before.if3.true))
+    c.refused3.ensures ∙ sym (place_outside st.args.shape.vocabulary _ st.args.rank st.args.p c.before.before.before.before.if1.false (below_range 1 _ st.args.p c.before.if3.true))
 
 way-of-requires : tie.Need-way-of-requires
 way-of-requires c κs = search rules
@@ -60,8 +60,8 @@ refused-requires-4 c κs = search rules
 returns-4 : tie.Need-returns-4
 returns-4 c =
     let st = c.before.before.before.before.before.before.before.before.before.before.before.before.before.before.before in
-    let t = textIn st.args.s (arrays st.args.lengths.now st.args.bytes.now st.args.superblocks.now st.args.blocks.now) in
-    c.refused4.ensures ∙ sym (place-outside st.args.shape.vocabulary t st.args.rank st.args.p c.before.before.before.before.before.before.before.before.if1.false (above-range 1 (frequency t st.args.rank) st.args.p (omega (arith, c.before.before.frequency-by.ensures, c.before.if4.true))))
+    let t = text_in st.args.s (arrays st.args.lengths.now st.args.bytes.now st.args.superblocks.now st.args.blocks.now) in
+    c.refused4.ensures ∙ sym (place_outside st.args.shape.vocabulary t st.args.rank st.args.p c.before.before.before.before.before.before.before.before.if1.false (above_range 1 (frequency t st.args.rank) st.args.p (omega (arith, c.before.before.frequency-by.ensures, c.before.if4.true))))
 
 nowhere-requires : tie.Need-nowhere-requires
 nowhere-requires c κs = search rules

@@ -2,14 +2,14 @@
 use mathlib.Core.Path.{sym, ap, ◌∙◌}
 use native.Mathlib.Omega.{arith}
 use borrow.Author.Rules.{rules}
-use Rattle.words.proofs.Parts.{checked-some}
+use Rattle.words.proofs.Parts.{checked_some}
 use Rattle.base.specs.Answers.{accepted, refused}
-use Rattle.questions.proofs.Answered.{word-at-outside, word-at-inside}
+use Rattle.questions.proofs.Answered.{word_at_outside, word_at_inside}
 use Rattle.answering.proofs.answer_word_at.Statement.{statement}
 use Rattle.answering.proofs.answer_word_at.Tie as tie
 
 text-length-requires : tie.Need-text-length-requires
-text-length-requires c κs = checked-some c.before.before.before.before.before.requires.checked
+text-length-requires c κs = checked_some c.before.before.before.before.before.requires.checked
 
 refused-requires : tie.Need-refused-requires
 refused-requires c κs = search rules
@@ -18,7 +18,7 @@ returns : tie.Need-returns
 returns c =
     let st = c.before.before.before.before.before.before.before.before in
     let n = c.before.before.text-length.ensures.1 _ _ _ _ _ st.requires.checked in
-    c.refused.ensures ∙ sym (word-at-outside _ st.args.place (omega (arith, n, c.before.if1.true)))
+    c.refused.ensures ∙ sym (word_at_outside _ st.args.place (omega (arith, n, c.before.if1.true)))
 
 word-at-requires : tie.Need-word-at-requires
 word-at-requires c κs =
@@ -36,7 +36,7 @@ returns-2 : tie.Need-returns-2
 returns-2 c =
     let st = c.before.before.before.before.before.before.before.before.before in
     let n = c.before.before.before.text-length.ensures.1 _ _ _ _ _ st.requires.checked in
-    c.accepted.ensures ∙ ap accepted c.before.word_at.ensures ∙ sym (word-at-inside _ st.args.place (omega (arith, n, c.before.before.if1.false)))
+    c.accepted.ensures ∙ ap accepted c.before.word_at.ensures ∙ sym (word_at_inside _ st.args.place (omega (arith, n, c.before.before.if1.false)))
 
 pub answer-word-at-spec : {M : Type 1} → statement M
 answer-word-at-spec =

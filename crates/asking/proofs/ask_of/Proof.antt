@@ -4,8 +4,8 @@ use mathlib.Core.List.{List}
 use Prim.Native.Nat.{ℕ}
 use borrow.Author.Rules.{rules}
 use Rattle.index.specs.Arrays.{Arrays, arrays}
-use Rattle.questions.specs.Answering.{askAnswerIn}
-use Rattle.questions.proofs.Read.{ask-by-root}
+use Rattle.questions.specs.Answering.{ask_answer_in}
+use Rattle.questions.proofs.Read.{ask_by_root}
 use Rattle.asking.proofs.ask_of.Statement.{statement}
 use Rattle.asking.proofs.ask_of.Tie as tie
 
@@ -23,8 +23,8 @@ returns c =
     let st = c.before.before.before.before.before.before.before.before in
     let a : Arrays = arrays st.args.lengths.now st.args.bytes.now st.args.superblocks.now st.args.blocks.now in
     c.ask-in-documents-of.ensures
-    ∙ ap (λ (d : List ℕ). askAnswerIn st.args.s st.args.shape a d st.args.words.now st.args.question) c.before.one-start.ensures
-    ∙ ask-by-root st.args.s st.args.shape a st.args.words.now st.args.question st.requires
+    ∙ ap (λ (d : List ℕ). ask_answer_in st.args.s st.args.shape a d st.args.words.now st.args.question) c.before.one-start.ensures
+    ∙ ask_by_root st.args.s st.args.shape a st.args.words.now st.args.question st.requires
 
 pub ask-of-spec : {M : Type 1} → statement M
 ask-of-spec =

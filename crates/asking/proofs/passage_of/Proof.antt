@@ -5,16 +5,16 @@ use native.Mathlib.Omega.{arith}
 use borrow.Author.Rules.{rules}
 use lib.ListN.{length, take, drop, length-drop}
 use lib.Seq.{length-take-le}
-use Rattle.index.specs.Arrays.{Arrays, arrays, textIn}
+use Rattle.index.specs.Arrays.{Arrays, arrays, text_in}
 use Rattle.base.specs.Answers.{accepted, refused}
 use Rattle.base.specs.declared.Answer.{Answer}
-use Rattle.index.specs.Entries.{checkAnswer}
-use Rattle.words.proofs.Parts.{accepted-checked, checked-some, checked-most, checked-total}
+use Rattle.index.specs.Entries.{check_answer}
+use Rattle.words.proofs.Parts.{accepted_checked, checked_some, checked_most, checked_total}
 use Rattle.words.specs.Ready.{Checked}
-use Rattle.questions.proofs.Answered.{check-passed, passage-index, passage-outside, passage-untouched}
-use Rattle.questions.proofs.Read.{passage-accepted, passage-filled}
-use Rattle.questions.specs.Passages.{passageAnswer, passageExit}
-use Rattle.base.specs.Refusals.{refusalPlace}
+use Rattle.questions.proofs.Answered.{check_passed, passage_index, passage_outside, passage_untouched}
+use Rattle.questions.proofs.Read.{passage_accepted, passage_filled}
+use Rattle.questions.specs.Passages.{passage_answer, passage_exit}
+use Rattle.base.specs.Refusals.{refusal_place}
 use Rattle.asking.proofs.passage_of.Statement.{statement}
 use Rattle.asking.proofs.passage_of.Tie as tie
 
@@ -23,27 +23,27 @@ abbrev four : tie.Start → Arrays
 four c = arrays c.args.lengths.now c.args.bytes.now c.args.superblocks.now c.args.blocks.now
 
 -- past the first test the slices have passed the check
-none : (c : tie.Else1) → (checkAnswer c.before.before.before.before.before.before.before.before.args.s c.before.before.before.before.before.before.before.before.args.shape (four c.before.before.before.before.before.before.before.before)).refusal ≡ 0
+none : (c : tie.Else1) → (check_answer c.before.before.before.before.before.before.before.before.args.s c.before.before.before.before.before.before.before.before.args.shape (four c.before.before.before.before.before.before.before.before)).refusal ≡ 0
 none c = ap (λ (r : Answer). r.refusal) (sym c.before.before.check-of.ensures) ∙ c.if1.false
 
 checked : (c : tie.Else1) → Checked c.before.before.before.before.before.before.before.before.args.s c.before.before.before.before.before.before.before.before.args.shape (four c.before.before.before.before.before.before.before.before)
-checked c = accepted-checked c.before.before.before.before.before.before.before.before.args.s c.before.before.before.before.before.before.before.before.requires c.before.before.before.before.before.before.before.before.args.shape (four c.before.before.before.before.before.before.before.before) (none c)
+checked c = accepted_checked c.before.before.before.before.before.before.before.before.args.s c.before.before.before.before.before.before.before.before.requires c.before.before.before.before.before.before.before.before.args.shape (four c.before.before.before.before.before.before.before.before) (none c)
 
 -- what the first of the lengths gives is the length of the text
-size : (c : tie.After-text-length) → c.text-length.result ≡ length (textIn c.before.before.before.before.before.before.before.before.before.args.s (four c.before.before.before.before.before.before.before.before.before))
+size : (c : tie.After-text-length) → c.text-length.result ≡ length (text_in c.before.before.before.before.before.before.before.before.before.args.s (four c.before.before.before.before.before.before.before.before.before))
 size c = c.text-length.ensures.1 _ _ _ _ _ (checked c.before)
 
 -- a passage refused for its place: the answer, and the slice
 abbrev Refused : tie.Start → Answer → Type 0
-Refused st r = (r ≡ passageAnswer st.args.s st.args.shape (four st) st.args.place st.args.ranks.now) × (st.args.ranks.now ≡ passageExit st.args.s st.args.shape (four st) st.args.place st.args.ranks.now)
+Refused st r = (r ≡ passage_answer st.args.s st.args.shape (four st) st.args.place st.args.ranks.now) × (st.args.ranks.now ≡ passage_exit st.args.s st.args.shape (four st) st.args.place st.args.ranks.now)
 
-past : (st : tie.Start) → (checkAnswer st.args.s st.args.shape (four st)).refusal ≡ 0 → length (textIn st.args.s (four st)) < st.args.place + length st.args.ranks.now → (r : Answer) → r ≡ refused refusalPlace → Refused st r
+past : (st : tie.Start) → (check_answer st.args.s st.args.shape (four st)).refusal ≡ 0 → length (text_in st.args.s (four st)) < st.args.place + length st.args.ranks.now → (r : Answer) → r ≡ refused refusal_place → Refused st r
 past st e l r is =
-    let no : passageAnswer st.args.s st.args.shape (four st) st.args.place st.args.ranks.now ≡ refused refusalPlace = passage-outside st.args.s st.args.shape (four st) e st.args.place st.args.ranks.now l in
-    (is ∙ sym no, sym (passage-untouched st.args.s st.args.shape (four st) st.args.place st.args.ranks.now (λ z. absurd (omega (arith, ap (λ (x : Answer). x.refusal) no, z)))))
+    let no : passage_answer st.args.s st.args.shape (four st) st.args.place st.args.ranks.now ≡ refused refusal_place = passage_outside st.args.s st.args.shape (four st) e st.args.place st.args.ranks.now l in
+    (is ∙ sym no, sym (passage_untouched st.args.s st.args.shape (four st) st.args.place st.args.ranks.now (λ z. absurd (omega (arith, ap (λ (x : Answer). x.refusal) no, z)))))
 
 -- past all tests, the passage lies in the text
-inside : (c : tie.Else3) → c.before.before.before.before.before.before.before.before.before.before.before.args.place + length c.before.before.before.before.before.before.before.before.before.before.before.args.ranks.now ≤ length (textIn c.before.before.before.before.before.before.before.before.before.before.before.args.s (four c.before.before.before.before.before.before.before.before.before.before.before))
+inside : (c : tie.Else3) → c.before.before.before.before.before.before.before.before.before.before.before.args.place + length c.before.before.before.before.before.before.before.before.before.before.before.args.ranks.now ≤ length (text_in c.before.before.before.before.before.before.before.before.before.before.before.args.s (four c.before.before.before.before.before.before.before.before.before.before.before))
 inside c = omega (arith, size c.before.before, c.if3.false, c.before.if2.false)
 
 check-of-requires : tie.Need-check-of-requires
@@ -52,12 +52,12 @@ check-of-requires c κs = search rules
 returns : tie.Need-returns
 returns c =
     let st = c.before.before.before.before.before.before.before.before in
-    let some : (checkAnswer st.args.s st.args.shape (four st)).refusal ≡ 0 → ⊥ = λ e. c.if1.true (ap (λ (r : Answer). r.refusal) c.before.before.check-of.ensures ∙ e) in
-    let no = passage-index st.args.s st.args.shape (four st) some st.args.place st.args.ranks.now in
-    (c.before.before.check-of.ensures ∙ sym no, sym (passage-untouched st.args.s st.args.shape (four st) st.args.place st.args.ranks.now (λ e. some (sym (ap (λ (r : Answer). r.refusal) no) ∙ e))))
+    let some : (check_answer st.args.s st.args.shape (four st)).refusal ≡ 0 → ⊥ = λ e. c.if1.true (ap (λ (r : Answer). r.refusal) c.before.before.check-of.ensures ∙ e) in
+    let no = passage_index st.args.s st.args.shape (four st) some st.args.place st.args.ranks.now in
+    (c.before.before.check-of.ensures ∙ sym no, sym (passage_untouched st.args.s st.args.shape (four st) st.args.place st.args.ranks.now (λ e. some (sym (ap (λ (r : Answer). r.refusal) no) ∙ e))))
 
 text-length-requires : tie.Need-text-length-requires
-text-length-requires c κs = checked-some (checked c)
+text-length-requires c κs = checked_some (checked c)
 
 refused-requires : tie.Need-refused-requires
 refused-requires c κs = search rules
@@ -75,7 +75,7 @@ slice-aggregate-node-starts : tie.Need-slice-aggregate-node-starts
 slice-aggregate-node-starts c = search rules
 
 node-starts-requires : tie.Need-node-starts-requires
-node-starts-requires c κs = (omega (arith, checked-most (checked c.before.before.before.before)), checked-total (checked c.before.before.before.before))
+node-starts-requires c κs = (omega (arith, checked_most (checked c.before.before.before.before)), checked_total (checked c.before.before.before.before))
 
 slice-aggregate-read-passage : tie.Need-slice-aggregate-read-passage
 slice-aggregate-read-passage c = search rules
@@ -92,12 +92,12 @@ same_length c = search rules
 returns-4 : tie.Need-returns-4
 returns-4 c =
     let st = c.before.before.before.before.before.before.before.before.before.before.before.before.before.before.before.before.before.before.before.before in
-    let rest = drop st.args.place (textIn st.args.s (four st)) in
+    let rest = drop st.args.place (text_in st.args.s (four st)) in
     let lies = inside c.before.before.before.before.before.before.before.before.before in
-    let passed = check-passed st.args.s st.args.shape (four st) (none c.before.before.before.before.before.before.before.before.before.before.before.before) in
+    let passed = check_passed st.args.s st.args.shape (four st) (none c.before.before.before.before.before.before.before.before.before.before.before.before) in
     let filled = c.before.before.before.read-passage.ensures in
-    let m : length (take (length st.args.ranks.now) rest) ≡ length st.args.ranks.now = length-take-le (length st.args.ranks.now) rest (omega (arith, lies, length-drop st.args.place (textIn st.args.s (four st)))) in
-    (c.accepted.ensures ∙ ap accepted (ap length filled ∙ m) ∙ sym (passage-accepted st.args.s st.args.shape (four st) passed st.args.place st.args.ranks.now lies), filled ∙ sym (passage-filled st.args.s st.args.shape (four st) passed st.args.place st.args.ranks.now lies))
+    let m : length (take (length st.args.ranks.now) rest) ≡ length st.args.ranks.now = length-take-le (length st.args.ranks.now) rest (omega (arith, lies, length-drop st.args.place (text_in st.args.s (four st)))) in
+    (c.accepted.ensures ∙ ap accepted (ap length filled ∙ m) ∙ sym (passage_accepted st.args.s st.args.shape (four st) passed st.args.place st.args.ranks.now lies), filled ∙ sym (passage_filled st.args.s st.args.shape (four st) passed st.args.place st.args.ranks.now lies))
 
 pub passage-of-spec : {M : Type 1} → statement M
 passage-of-spec =

@@ -8,7 +8,7 @@ use borrow.Author.Rules.{rules}
 use lib.ListN.{length, take}
 use lib.Seq.{take_all}
 use Rattle.base.specs.Lists.{count_of}
-use Rattle.base.proofs.Counts.{count-hit, count-miss}
+use Rattle.base.proofs.Counts.{count_hit, count_miss}
 use Rattle.block_scan.proofs.count_few.Statement.{statement}
 use Rattle.block_scan.proofs.count_few.Tie as tie
 
@@ -40,8 +40,8 @@ loop-again c =
       omega arith,
       rw (add-one l.i)
           (⊎_elim
-          (λ w. omega (arith, count-hit a.byte a.part.now l.i (omega arith) w.0.taken))
-          (λ w. omega (arith, count-miss a.byte a.part.now l.i (omega arith) w.0.left))
+          (λ w. omega (arith, count_hit a.byte a.part.now l.i (omega arith) w.0.taken))
+          (λ w. omega (arith, count_miss a.byte a.part.now l.i (omega arith) w.0.left))
           c.if1.branch),
       ⊎_elim (λ w. omega arith) (λ w. omega arith) c.if1.branch,
     )

@@ -5,7 +5,7 @@ use mathlib.Core.Bool.{false}
 use native.Mathlib.Omega.{arith}
 use lib.ListN.{length}
 use Rattle.block_scan.specs.BlockScans.{Looked}
-use Rattle.block_scan.proofs.Looks.{looked-none, looked-on, looked-clear}
+use Rattle.block_scan.proofs.Looks.{looked_none, looked_on, looked_clear}
 use Rattle.block_scan.proofs.read_eights.Statement.{statement}
 use Rattle.block_scan.proofs.read_eights.Tie as tie
 
@@ -20,10 +20,10 @@ looked : (c : tie.After-read-some invariant-loop decreases-loop) → let a = c.b
 looked c =
     let l = c.before.before.loop in
     let a = c.before.before.before.before.args in
-    looked-on a.byte a.from a.block.now (record { met = false; read = l.read }) c.read_Some.result l.invariant refl c.read_Some.ensures.0
+    looked_on a.byte a.from a.block.now (record { met = false; read = l.read }) c.read_Some.result l.invariant refl c.read_Some.ensures.0
 
 loop-holds : tie.Need-loop-init invariant-loop decreases-loop
-loop-holds c = looked-none c.before.args.byte c.before.args.from c.before.args.block.now c.before.requires.0
+loop-holds c = looked_none c.before.args.byte c.before.args.from c.before.args.block.now c.before.requires.0
 
 sub-loop : tie.Need-overflow-sub-loop invariant-loop decreases-loop
 sub-loop c = c.loop.invariant.inside
@@ -40,7 +40,7 @@ loop-less c = omega (arith, c.before.read_Some.ensures.1 c.if1.false, c.before.b
 loop-again : tie.Need-loop-preserved invariant-loop decreases-loop
 loop-again c =
     let a = c.before.before.before.before.before.args in
-    looked-clear a.byte a.from a.block.now c.before.read_Some.result (looked c.before) c.if1.false
+    looked_clear a.byte a.from a.block.now c.before.read_Some.result (looked c.before) c.if1.false
 
 returns-2 : tie.Need-returns-2 invariant-loop decreases-loop
 returns-2 c = c.before.loop.invariant

@@ -1,7 +1,7 @@
 -- `read_on` meets its contract. Assumes nothing.
 use native.Mathlib.Omega.{arith}
 use borrow.Author.Rules.{rules}
-use Rattle.block_scan.proofs.Looks.{never, looked-on}
+use Rattle.block_scan.proofs.Looks.{never, looked_on}
 use Rattle.block_scan.proofs.read_on.Statement.{statement}
 use Rattle.block_scan.proofs.read_on.Tie as tie
 
@@ -23,7 +23,7 @@ returns-2 : tie.Need-returns-2
 returns-2 c =
     let a = c.before.before.before.before.args in
     let r = c.before.before.read-eights in (
-      looked-on a.byte a.from a.block.now r.result c.read_Some.result r.ensures c.before.if1.false c.read_Some.ensures.0,
+      looked_on a.byte a.from a.block.now r.result c.read_Some.result r.ensures c.before.if1.false c.read_Some.ensures.0,
       λ m. omega (arith, c.read_Some.ensures.1 m, r.ensures.inside),
     )
 

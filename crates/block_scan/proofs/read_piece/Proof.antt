@@ -6,7 +6,7 @@ use borrow.Author.Rules.{rules}
 use lib.ListN.{length, take}
 use lib.Seq.{take_all}
 use Rattle.base.specs.Lists.{count_of}
-use Rattle.base.proofs.Counts.{count-part}
+use Rattle.base.proofs.Counts.{count_part}
 use Rattle.block_scan.proofs.read_piece.Statement.{statement}
 use Rattle.block_scan.proofs.read_piece.Tie as tie
 
@@ -32,7 +32,7 @@ returns c =
     let n : ℕ = length a.front.now - a.from in
     let whole : count_of a.byte (take (a.from + n) a.front.now) ≡ count_of a.byte a.front.now =
     ap (count_of a.byte) (take_all (a.from + n) a.front.now (omega arith)) in
-    (omega arith, omega (arith, c.count-few.ensures, count-part a.byte a.from n a.front.now))
+    (omega arith, omega (arith, c.count-few.ensures, count_part a.byte a.from n a.front.now))
 
 pub read-piece-spec : {M : Type 1} → statement M
 read-piece-spec =

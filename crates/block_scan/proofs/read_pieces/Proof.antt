@@ -6,7 +6,7 @@ use borrow.Author.Rules.{rules}
 use lib.ListN.{length, take, length-take}
 use lib.Seq.{take-take}
 use Rattle.base.specs.Lists.{count_of}
-use Rattle.block_scan.proofs.BlockScans.{piece-not-past, piece-most}
+use Rattle.block_scan.proofs.BlockScans.{piece_not_past, piece_most}
 use Rattle.block_scan.proofs.read_pieces.Statement.{statement}
 use Rattle.block_scan.proofs.read_pieces.Tie as tie
 
@@ -38,7 +38,7 @@ read-piece-requires c κs =
     let l = c.before.before.before.loop in
     let s = c.before.before.before.before.before in
     let a = s.args in
-    piece-not-past a.byte a.j l.read a.width a.block.now s.requires.1 (omega arith) (omega arith)
+    piece_not_past a.byte a.j l.read a.width a.block.now s.requires.1 (omega arith) (omega arith)
 
 -- what a piece has, with those before it, and that it has at most as many as are left to pass
 counted : (c : tie.After-read-piece invariant-loop decreases-loop) → let a = c.before.before.before.before.before.before.args in
@@ -52,7 +52,7 @@ counted c =
     let size : r.result.read ≡ l.read + a.width = r.ensures.0 ∙ length-take (l.read + a.width) a.block.now ∙ omega arith in
     let sum : count_of a.byte (take l.read a.block.now) + r.result.found ≡ count_of a.byte (take (l.read + a.width) a.block.now) =
     rw (take-take l.read (l.read + a.width) a.block.now (omega arith)) at r.ensures.1 in
-    (size, rw size sum, omega (arith, sum, piece-most a.byte l.read a.width a.block.now))
+    (size, rw size sum, omega (arith, sum, piece_most a.byte l.read a.width a.block.now))
 
 sub-left : tie.Need-overflow-sub-left invariant-loop decreases-loop
 sub-left c = (counted c.before).2

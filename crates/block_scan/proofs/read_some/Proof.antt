@@ -7,7 +7,7 @@ use borrow.Author.Rules.{rules}
 use lib.ListN.{length-take}
 use Rattle.block_scan.specs.declared.Look.{Look}
 use Rattle.block_scan.specs.BlockScans.{last_of, Looked}
-use Rattle.block_scan.proofs.Looks.{never, looked-none, looked-last, last-not-past, looked-on, looked-clear}
+use Rattle.block_scan.proofs.Looks.{never, looked_none, looked_last, last_not_past, looked_on, looked_clear}
 use Rattle.block_scan.proofs.read_some.Statement.{statement}
 use Rattle.block_scan.proofs.read_some.Tie as tie
 
@@ -23,7 +23,7 @@ read-byte-requires c κs =
     let l = c.before.before.loop in
     let s = c.before.before.before.before in
     let a = s.args in
-    last-not-past a.byte a.j l.read a.block.now (omega arith) (omega (arith, l.invariant.2.clear refl, s.requires.1))
+    last_not_past a.byte a.j l.read a.block.now (omega arith) (omega (arith, l.invariant.2.clear refl, s.requires.1))
 
 -- after one byte more
 looked : (c : tie.After-read-byte invariant-loop decreases-loop) → let a = c.before.before.before.before.before.args in Looked a.byte a.from a.block.now c.read_byte.result
@@ -31,8 +31,8 @@ looked c =
     let l = c.before.before.before.loop in
     let s = c.before.before.before.before.before in
     let a = s.args in
-    looked-on a.byte a.from a.block.now (record { met = false; read = l.read }) c.read_byte.result l.invariant.2 refl
-    (rw c.read_byte.ensures (looked-last a.byte l.read a.block.now (omega (arith, s.requires.0))))
+    looked_on a.byte a.from a.block.now (record { met = false; read = l.read }) c.read_byte.result l.invariant.2 refl
+    (rw c.read_byte.ensures (looked_last a.byte l.read a.block.now (omega (arith, s.requires.0))))
 
 -- which is counted
 size : (c : tie.After-read-byte invariant-loop decreases-loop) → c.read_byte.result.read ≡ suc c.before.before.before.loop.read
@@ -43,7 +43,7 @@ size c =
     ap (λ (r : Look). r.read) c.read_byte.ensures ∙ length-take (l.read + 1) s.args.block.now ∙ omega (arith, s.requires.0)
 
 loop-holds : tie.Need-loop-init invariant-loop decreases-loop
-loop-holds c = (omega arith, omega arith, looked-none c.before.args.byte c.before.args.from c.before.args.block.now (omega arith))
+loop-holds c = (omega arith, omega arith, looked_none c.before.args.byte c.before.args.from c.before.args.block.now (omega arith))
 
 add-end : tie.Need-overflow-add-end invariant-loop decreases-loop
 add-end c = search rules
@@ -65,7 +65,7 @@ loop-less c = search rules
 loop-again : tie.Need-loop-preserved invariant-loop decreases-loop
 loop-again c =
     let a = c.before.before.before.before.before.before.args in
-    (omega arith, omega (arith, size c.before), looked-clear a.byte a.from a.block.now c.before.read_byte.result (looked c.before) c.if1.false)
+    (omega arith, omega (arith, size c.before), looked_clear a.byte a.from a.block.now c.before.read_byte.result (looked c.before) c.if1.false)
 
 returns-2 : tie.Need-returns-2 invariant-loop decreases-loop
 returns-2 c = (c.before.loop.invariant.2, λ m. omega (arith, c.before.loop.invariant.0, c.before.loop.invariant.1))

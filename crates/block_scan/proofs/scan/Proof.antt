@@ -5,8 +5,8 @@ use native.Mathlib.Omega.{arith}
 use borrow.Author.Rules.{rules}
 use lib.ListN.{length, take}
 use Rattle.base.specs.Lists.{count_of}
-use Rattle.block_scan.proofs.BlockScans.{scan-whole}
-use Rattle.block_scan.proofs.Looks.{looked-hit, looked-met}
+use Rattle.block_scan.proofs.BlockScans.{scan_whole}
+use Rattle.block_scan.proofs.Looks.{looked_hit, looked_met}
 use Rattle.block_scan.proofs.scan.Statement.{statement}
 use Rattle.block_scan.proofs.scan.Tie as tie
 
@@ -33,15 +33,15 @@ sub-t13 c =
     let l = c.before.before.before.before.loop in
     let a = c.before.before.before.before.before.before.before.before.args in
     let r = c.before.before.read-on in
-    omega (arith, (looked-met a.byte l.read a.block.now r.result r.ensures.0 c.before.if1.true).0)
+    omega (arith, (looked_met a.byte l.read a.block.now r.result r.ensures.0 c.before.if1.true).0)
 
 returns : tie.Need-returns invariant-loop decreases-loop
 returns c =
     let l = c.before.before.before.before.loop in
     let a = c.before.before.before.before.before.before.before.before.args in
     let r = c.before.before.read-on in
-    let m = looked-met a.byte l.read a.block.now r.result r.ensures.0 c.before.if1.true in
-    looked-hit a.byte a.j l.read _ a.block.now r.result r.ensures.0 c.before.if1.true (omega arith) (omega (arith, m.0))
+    let m = looked_met a.byte l.read a.block.now r.result r.ensures.0 c.before.if1.true in
+    looked_hit a.byte a.j l.read _ a.block.now r.result r.ensures.0 c.before.if1.true (omega arith) (omega (arith, m.0))
 
 sub-left : tie.Need-overflow-sub-left invariant-loop decreases-loop
 sub-left c = search rules
@@ -51,14 +51,14 @@ loop-less c =
     let l = c.before.before.before.before.loop in
     let a = c.before.before.before.before.before.before.before.before.args in
     let r = c.before.before.read-on in
-    omega (arith, r.ensures.0.inside, (looked-met a.byte l.read a.block.now r.result r.ensures.0 c.before.if1.true).0)
+    omega (arith, r.ensures.0.inside, (looked_met a.byte l.read a.block.now r.result r.ensures.0 c.before.if1.true).0)
 
 loop-again : tie.Need-loop-preserved invariant-loop decreases-loop
 loop-again c =
     let l = c.before.before.before.before.loop in
     let a = c.before.before.before.before.before.before.before.before.args in
     let r = c.before.before.read-on in
-    (r.ensures.0.inside, omega (arith, (looked-met a.byte l.read a.block.now r.result r.ensures.0 c.before.if1.true).1))
+    (r.ensures.0.inside, omega (arith, (looked_met a.byte l.read a.block.now r.result r.ensures.0 c.before.if1.true).1))
 
 loop-less-2 : tie.Need-loop-smaller-2 invariant-loop decreases-loop
 loop-less-2 c =
@@ -74,7 +74,7 @@ returns-2 : tie.Need-returns-2 invariant-loop decreases-loop
 returns-2 c =
     let l = c.before.loop in
     let a = c.before.before.before.before.before.args in
-    scan-whole a.byte a.j l.read a.block.now (omega arith) (omega arith)
+    scan_whole a.byte a.j l.read a.block.now (omega arith) (omega arith)
 
 pub scan-spec : {M : Type 1} → statement M
 scan-spec =

@@ -2,8 +2,8 @@
 use mathlib.Core.Path.{sym, ◌∙◌}
 use borrow.Author.Rules.{rules}
 use Rattle.index.specs.Arrays.{Arrays, arrays}
-use Rattle.measuring.proofs.Sizes.{turned_down, its-answer, build-stopped}
-use Rattle.building.proofs.Built.{measured-size, size-tested, short-built, long-buildable, long-built}
+use Rattle.measuring.proofs.Sizes.{turned_down, its_answer, build_stopped}
+use Rattle.building.proofs.Built.{measured_size, size_tested, short_built, long_buildable, long_built}
 use Rattle.building.proofs.build_of.Statement.{statement}
 use Rattle.building.proofs.build_of.Tie as tie
 
@@ -16,13 +16,13 @@ measure-of-requires c κs = search rules
 
 returns : tie.Need-returns
 returns c = let start = c.before.before.before.before.before.before.before.before.before in
-    let answer = its-answer start.args.s start.args.shape start.args.text.now c.before.before.before.measure-of.ensures in
-    let r = build-stopped start.args.s start.args.shape start.args.text.now (slices start) (turned_down start.args.s start.args.shape start.args.text.now answer c.before.if1.true) in
+    let answer = its_answer start.args.s start.args.shape start.args.text.now c.before.before.before.measure-of.ensures in
+    let r = build_stopped start.args.s start.args.shape start.args.text.now (slices start) (turned_down start.args.s start.args.shape start.args.text.now answer c.before.if1.true) in
     (answer ∙ sym r.0, sym r.1)
 
 too-short-requires : tie.Need-too-short-requires
 too-short-requires c κs = let start = c.before.before.before.before.before.before.before.before.before.before.before.before in
-    size-tested start.args.s start.args.shape start.args.text.now start.requires c.before.before.before.before.before.before.measure-of.ensures c.before.before.before.before.if1.false
+    size_tested start.args.s start.args.shape start.args.text.now start.requires c.before.before.before.before.before.before.measure-of.ensures c.before.before.before.before.if1.false
 
 refused-requires : tie.Need-refused-requires
 refused-requires c κs = search rules
@@ -41,14 +41,14 @@ same-length-4 c = search rules
 
 returns-2 : tie.Need-returns-2
 returns-2 c = let start = c.before.before.before.before.before.before.before.before.before.before.before.before.before.before.before in
-    short-built start.args.s start.args.shape start.args.text.now start.requires c.before.before.before.before.before.before.before.before.before.measure-of.ensures c.before.before.before.before.before.before.before.if1.false (slices start)
+    short_built start.args.s start.args.shape start.args.text.now start.requires c.before.before.before.before.before.before.before.before.before.measure-of.ensures c.before.before.before.before.before.before.before.if1.false (slices start)
     c.refused.ensures (sym c.before.before.too_short.ensures ∙ c.before.if2.true)
 
 write-index-requires : tie.Need-write-index-requires
 write-index-requires c κs = let start = c.before.before.before.before.before.before.before.before.before.before.before.before.before.before.before.before.before.before in
     let measured = c.before.before.before.before.before.before.before.before.before.before.before.before.measure-of.ensures in
     let zero = c.before.before.before.before.before.before.before.before.before.before.if1.false in
-    (long-buildable start.args.s start.args.shape start.args.text.now start.requires measured zero (slices start) (sym c.before.before.before.before.before.too_short.ensures ∙ c.before.before.before.before.if2.false), measured-size start.args.s start.args.shape start.args.text.now start.requires measured zero)
+    (long_buildable start.args.s start.args.shape start.args.text.now start.requires measured zero (slices start) (sym c.before.before.before.before.before.too_short.ensures ∙ c.before.before.before.before.if2.false), measured_size start.args.s start.args.shape start.args.text.now start.requires measured zero)
 
 accepted-requires : tie.Need-accepted-requires
 accepted-requires c κs = search rules
@@ -67,7 +67,7 @@ same-length-8 c = search rules
 
 returns-3 : tie.Need-returns-3
 returns-3 c = let start = c.before.before.before.before.before.before.before.before.before.before.before.before.before.before.before.before.before.before.before.before.before.before.before.before.before.before.before.before in
-    long-built start.args.s start.args.shape start.args.text.now start.requires c.before.before.before.before.before.before.before.before.before.before.before.before.before.before.before.before.before.before.before.before.before.before.measure-of.ensures c.before.before.before.before.before.before.before.before.before.before.before.before.before.before.before.before.before.before.before.before.if1.false (slices start)
+    long_built start.args.s start.args.shape start.args.text.now start.requires c.before.before.before.before.before.before.before.before.before.before.before.before.before.before.before.before.before.before.before.before.before.before.measure-of.ensures c.before.before.before.before.before.before.before.before.before.before.before.before.before.before.before.before.before.before.before.before.if1.false (slices start)
     c.accepted.ensures c.before.before.before.before.before.before.before.before.before.write-index.ensures (sym c.before.before.before.before.before.before.before.before.before.before.before.before.before.before.before.too_short.ensures ∙ c.before.before.before.before.before.before.before.before.before.before.before.before.before.before.if2.false)
 
 pub build-of-spec : {M : Type 1} → statement M

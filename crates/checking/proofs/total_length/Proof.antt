@@ -7,7 +7,7 @@ use borrow.Author.Rules.{rules}
 use lib.ListN.{length, take, get_or}
 use lib.Seq.{take_all}
 use Rattle.base.specs.Lists.{total}
-use Rattle.base.proofs.Sums.{total-take-suc}
+use Rattle.base.proofs.Sums.{total_take_suc}
 use Rattle.checking.proofs.total_length.Statement.{statement}
 use Rattle.checking.proofs.total_length.Tie as tie
 
@@ -41,7 +41,7 @@ loop-less c = search rules
 loop-again : tie.Need-loop-preserved invariant-loop decreases-loop
 loop-again c = let loop = c.before.before.loop in
     let lengths = c.before.before.before.args.lengths.now in
-    (omega arith, omega (arith, c.shared-slice-known.given loop.node), sym (ap (λ n. total (take n lengths)) (add-one loop.node) ∙ total-take-suc lengths loop.node c.before.loop-test.true ∙ ap (λ n. n + get_or lengths loop.node 0) (sym loop.invariant.2)))
+    (omega arith, omega (arith, c.shared-slice-known.given loop.node), sym (ap (λ n. total (take n lengths)) (add-one loop.node) ∙ total_take_suc lengths loop.node c.before.loop-test.true ∙ ap (λ n. n + get_or lengths loop.node 0) (sym loop.invariant.2)))
 
 returns : tie.Need-returns invariant-loop decreases-loop
 returns c = c.before.loop.invariant.2 ∙ ap total (take_all c.before.loop.node c.before.before.args.lengths.now (omega arith))

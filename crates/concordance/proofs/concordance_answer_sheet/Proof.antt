@@ -47,18 +47,18 @@ use denote.Triple.Walked.{says, Stays, stay_dropped, gave_slice, walk_of, Goes-d
 use denote.Exit.{yes}
 use Rattle.base.specs.declared.Answer.{Answer}
 use Rattle.index.specs.declared.Shape.{Shape}
-use Rattle.index.specs.Arrays.{Arrays, arrays, textIn}
-use Rattle.documents.specs.Documents.{oneStart}
+use Rattle.index.specs.Arrays.{Arrays, arrays, text_in}
+use Rattle.documents.specs.Documents.{one_start}
 use Rattle.questions.specs.declared.Question.{Question}
 use Rattle.base.specs.contracts.Answer as An
 use Rattle.base.proofs.Answer.TheLaws as An'
 use Rattle.index.specs.contracts.Shape as S
 use Rattle.index.proofs.Shape.TheLaws as S'
 use Rattle.questions.specs.contracts.Question as Q
-use Rattle.sheet_calls.specs.Sheets.{sheetAnswer, sheetExit}
-use Rattle.sheet_calls.proofs.Whole.{sheet-whole}
-use Rattle.concordance.proofs.Published.{closing-128}
-use Rattle.concordance.proofs.Table.{zeros-typed, lends-zeros-shared, shared-room}
+use Rattle.sheet_calls.specs.Sheets.{sheet_answer, sheet_exit}
+use Rattle.sheet_calls.proofs.Whole.{sheet_whole}
+use Rattle.concordance.proofs.Published.{closing_128}
+use Rattle.concordance.proofs.Table.{zeros_typed, lends_zeros_shared, shared_room}
 use Rattle.documents.specs.contracts.one_start as one-start
 use Rattle.documents.proofs.one_start.Symbol as one-start-def
 use Rattle.documents.proofs.one_start.Symbol.{name as #one-start}
@@ -150,17 +150,17 @@ module _ {M : Type 1} {𝓤 : Ura M} (𝓛 : Logic 𝓤) (mem : Memory → SProp
 
   -- what is said of the answer and of the last list of answers, with these starts of documents
   abbrev Said : List ℕ → Answer → List ℕ → Type 0
-  Said documents r ws = (r ≡ sheetAnswer 128 shape four documents (length qs) (length zs)) × (ws ≡ sheetExit 128 shape four documents x₄.now qs zs)
+  Said documents r ws = (r ≡ sheet_answer 128 shape four documents (length qs) (length zs)) × (ws ≡ sheet_exit 128 shape four documents x₄.now qs zs)
 
   abbrev Goal : Answer → List ℕ → Type 0
-  Goal = Said (oneStart (length (textIn 128 four)))
+  Goal = Said (one_start (length (text_in 128 four)))
 
   -- the starts that `one_start` gives are those of the text
-  whole-text : (documents : List ℕ) (r : Answer) (ws : List ℕ) → documents ≡ oneStart (get_or x₀.now 0 0) → Said documents r ws → Goal r ws
+  whole-text : (documents : List ℕ) (r : Answer) (ws : List ℕ) → documents ≡ one_start (get_or x₀.now 0 0) → Said documents r ws → Goal r ws
   whole-text documents r ws e said =
-      let same = sheet-whole 128 closing-128 shape four x₄.now qs zs in (
-        said.0 ∙ ap (λ (d : List ℕ). sheetAnswer 128 shape four d (length qs) (length zs)) e ∙ same.0,
-        said.1 ∙ ap (λ (d : List ℕ). sheetExit 128 shape four d x₄.now qs zs) e ∙ same.1,
+      let same = sheet_whole 128 closing_128 shape four x₄.now qs zs in (
+        said.0 ∙ ap (λ (d : List ℕ). sheet_answer 128 shape four d (length qs) (length zs)) e ∙ same.0,
+        said.1 ∙ ap (λ (d : List ℕ). sheet_exit 128 shape four d x₄.now qs zs) e ∙ same.1,
       )
 
   -- what is had: of the lengths; of the other three arrays of the index, and their tokens; of words, questions and answers, and their tokens
@@ -232,7 +232,7 @@ module _ {M : Type 1} {𝓤 : Ura M} (𝓛 : Logic 𝓤) (mem : Memory → SProp
 
     -- what it gives: a part of the array, for the same lifetime
     abbrev HadS : Val → Bor (List ℕ) → Item 𝓤
-    HadS v xd = given (xd.now ≡ oneStart (get_or x₀.now 0 0)) (‵ ((ShrSlice (named 0) (ν ∷ []) u32).own_val xd (v ∷ [])) ⊛ (‵ (flft (ν ∷ []) full_share) ⊛ ‵ (flft κ₀ q₀)))
+    HadS v xd = given (xd.now ≡ one_start (get_or x₀.now 0 0)) (‵ ((ShrSlice (named 0) (ν ∷ []) u32).own_val xd (v ∷ [])) ⊛ (‵ (flft (ν ∷ []) full_share) ⊛ ‵ (flft κ₀ q₀)))
 
     abbrev Started : Val → Item 𝓤
     Started v = later (some (HadS v))
@@ -241,8 +241,8 @@ module _ {M : Type 1} {𝓤 : Ura M} (𝓛 : Logic 𝓤) (mem : Memory → SProp
     started v =
         qed 𝓛 (raw ((Start 𝓛 mem run).post to_start v) ∷ []) ∵ updating ! $
         use1 𝓛 (later (some (λ (xd : Bor (List ℕ)). ((‵ (flft (ν ∷ []) full_share) ⊛ (‵ (flft κ₀ q₀) ⊛ ‵ ftrue)) ⊛ ‵ ((ShrSlice (named 0) (ν ∷ []) u32).own_val xd (v ∷ []))) ⊛ raw (ensured 𝓛 one-start.ended (one-start.clauses 𝓛 mem run) to_start.0.0 to_start.0.3 tt xd)))) (id⊢ 𝓤 _) $ await ! tt $ pick ! (λ xd.
-        split ! $ move ! (1 ∷ []) $ use1 𝓛 (some (λ (ws : Unit {0} × (Unit {0} × Unit {0})). ‵ (lasts one-start.ended to_start.0.0 to_start.0.3 ws) ⊛ raw (fact 𝓤 (xd.now ≡ oneStart (get_or x₀.now 0 0))))) (id⊢ 𝓤 _) $ pick ! (λ ws.
-        split ! $ move ! (1 ∷ []) $ heard ! (xd.now ≡ oneStart (get_or x₀.now 0 0)) (λ e. drop ! $ split ! $ split ! $ move ! (1 ∷ []) $ split ! $
+        split ! $ move ! (1 ∷ []) $ use1 𝓛 (some (λ (ws : Unit {0} × (Unit {0} × Unit {0})). ‵ (lasts one-start.ended to_start.0.0 to_start.0.3 ws) ⊛ raw (fact 𝓤 (xd.now ≡ one_start (get_or x₀.now 0 0))))) (id⊢ 𝓤 _) $ pick ! (λ ws.
+        split ! $ move ! (1 ∷ []) $ heard ! (xd.now ≡ one_start (get_or x₀.now 0 0)) (λ e. drop ! $ split ! $ split ! $ move ! (1 ∷ []) $ split ! $
         -- [the token of lengths; true; ν; the part]
         at_once ! $ show ! (λ (x : Bor (List ℕ)). mean 𝓛 (HadS v x)) xd $ check ! e $ keep ! (3 ∷ 2 ∷ 0 ∷ []) $ done !)))
 
@@ -305,11 +305,11 @@ module _ {M : Type 1} {𝓤 : Ura M} (𝓛 : Logic 𝓤) (mem : Memory → SProp
       pass1 ! (init ! 26 refl ((LL.lawful S.the_type S'.the_laws 𝓛).typed shape _ isS).0) $ pass1 ! (init ! 24 refl (tt, (tt, (record { fits = r₀.0 }, tt)))) $ pass1 ! (init ! 22 refl (tt, (tt, (record { fits = r₁.0 }, tt)))) $ pass1 ! (init ! 20 refl (tt, (tt, (record { fits = r₂.0 }, tt)))) $ pass1 ! (init ! 18 refl (tt, (tt, (record { fits = r₃.0 }, tt)))) $ pass1 ! (init ! 16 refl (tt, (tt, (record { fits = r₄.0 }, tt)))) $ pass1 ! (init ! 14 refl (tt, (tt, (record { fits = rq.0 }, tt)))) $ pass1 ! (init ! 12 refl (tt, (tt, (record { fits = ra.0 }, tt)))) $ pass0 ! $
       move ! (30 ∷ 31 ∷ []) $ cut (Tokens ∷ ‵ Owned ∷ []) (Len ∷ ‵ (flft κ₀ q₀) ∷ Shr ∷ Tok ∷ ‵ Asked ∷ Lent ∷ []) _ begins $
       -- the array of one 0, and a slice of it
-      assigns ! (agg ! (and_then ! (lit ! tt) (no_more !))) (from ! (stop !)) (init ! 16 refl (zeros-typed 1)) $
+      assigns ! (agg ! (and_then ! (lit ! tt) (no_more !))) (from ! (stop !)) (init ! 16 refl (zeros_typed 1)) $
       assigns ! (addr ! (from ! (stop !))) (from ! (stop !)) (init ! 12 refl (tt, tt)) $
       assigns ! (agg ! (and_then ! (load ! (from ! (stop !)) (look ! 12 refl)) (and_then ! (lit ! tt) (no_more !)))) (from ! (stop !)) (init ! 10 refl (tt, (tt, (record { fits = lit< tt }, tt)))) $
       lft_new ! tt (λ ν. move ! (17 ∷ []) $
-      use1 𝓛 (later (some (λ (δ : GName). ‵ (Zero l₉ ν δ) ⊛ ‵ (Kept l₉ ν δ)))) (lends-zeros-shared 𝓛 1 l₉ (named 0) (ν ∷ []) one-room) $ await ! tt $ pick ! (λ δ. split ! $
+      use1 𝓛 (later (some (λ (δ : GName). ‵ (Zero l₉ ν δ) ⊛ ‵ (Kept l₉ ν δ)))) (lends_zeros_shared 𝓛 1 l₉ (named 0) (ν ∷ []) one-room) $ await ! tt $ pick ! (λ δ. split ! $
       -- [the slice; what is kept of the array; ν; lengths; its token; …]: the lengths are copied
       move ! (3 ∷ []) $ use1 𝓛 (Len ⊛ Len) ((shr_slice_copy 𝓛 (named 0) κ₀ u32).twice x₀ (s₀ ∷ [])) $ split ! $
       move ! (4 ∷ 5 ∷ 2 ∷ 0 ∷ []) $ cut (‵ (flft (ν ∷ []) full_share) ∷ ‵ (flft κ₀ q₀) ∷ ‵ (Zero l₉ ν δ) ∷ Len ∷ []) (raw ((Start 𝓛 mem run).pre (to_start l₉ ν δ)) ∷ []) _ (goes-start l₉ ν δ) $
@@ -330,7 +330,7 @@ module _ {M : Type 1} {𝓤 : Ura M} (𝓛 : Logic 𝓤) (mem : Memory → SProp
       peeks ! An.the_row (Is An.the_row) (shows 𝓛 An.the_row) u.0 (w ∷ []) (λ is_a.
       land ! (from ! (stop !)) (init ! 32 refl ((LL.lawful An.the_type An'.the_laws 𝓛).typed u.0 _ is_a).0) $
       -- the array is taken back, and is room
-      move ! (1 ∷ 4 ∷ []) $ lft_end ! tt $ lent_back ! tt $ use1 𝓛 (‵ (froom zeros l₉ 0)) (shared-room 𝓛 1 l₉ (0 ∷ []) refl) $
+      move ! (1 ∷ 4 ∷ []) $ lft_end ! tt $ lent_back ! tt $ use1 𝓛 (‵ (froom zeros l₉ 0)) (shared_room 𝓛 1 l₉ (0 ∷ []) refl) $
       returns ! (look ! 31 refl) $ forget ! 4 refl $ forget ! 6 refl $ forget ! 8 refl $ forget ! 10 refl $ forget ! 12 refl $ forget ! 15 refl $ forget ! 17 refl $ forget ! 19 refl $ forget ! 21 refl $ forget ! 23 refl $ forget ! 25 refl $ forget ! 27 refl $ forget ! 29 refl $ forget ! 31 refl $
       move ! (31 ∷ 32 ∷ []) $ free1 ! $ move ! (29 ∷ 30 ∷ []) $ free1 ! $ move ! (27 ∷ 28 ∷ []) $ free1 ! $ move ! (25 ∷ 26 ∷ []) $ free1 ! $ move ! (23 ∷ 24 ∷ []) $ free1 ! $ move ! (21 ∷ 22 ∷ []) $ free1 ! $ move ! (19 ∷ 20 ∷ []) $ free1 ! $ move ! (17 ∷ 18 ∷ []) $ free1 ! $ move ! (15 ∷ 16 ∷ []) $ free1 ! $ move ! (0 ∷ 14 ∷ []) $ free1 ! $ move ! (11 ∷ 12 ∷ []) $ free1 ! $ move ! (9 ∷ 10 ∷ []) $ free1 ! $ move ! (7 ∷ 8 ∷ []) $ free1 ! $ move ! (5 ∷ 6 ∷ []) $ free1 ! $ move ! (3 ∷ 4 ∷ []) $ free1 ! $ free0 ! $
       keep ! (2 ∷ 1 ∷ 0 ∷ []) $ by ! (exits u.0 w u.1 (whole-text xd.now u.0 u.1 e said.0) said.1))))))))))))))))))))))))))

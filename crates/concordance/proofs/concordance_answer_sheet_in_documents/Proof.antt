@@ -59,28 +59,28 @@ use denote.Triple.Clauses.{ensured, lasts}
 use denote.Triple.Walked.{says, Stays, stay_dropped, stay_slice, walk_of, Goes-dropped, Goes-slice, Walks, ends_at, walked, walk_Meets}
 use denote.Exit.{yes}
 use Rattle.base.specs.declared.Answer.{Answer}
-use Rattle.base.specs.Answers.{accepted, isAccepted, written}
+use Rattle.base.specs.Answers.{accepted, is_accepted, written}
 use Rattle.index.specs.declared.Shape.{Shape}
-use Rattle.index.specs.Arrays.{Arrays, arrays, textIn}
-use Rattle.index.specs.Entries.{checkAnswer}
-use Rattle.starts.specs.Starts.{maxStarts, NodeStarts}
+use Rattle.index.specs.Arrays.{Arrays, arrays, text_in}
+use Rattle.index.specs.Entries.{check_answer}
+use Rattle.starts.specs.Starts.{max_starts, NodeStarts}
 use Rattle.words.specs.Ready.{Ready}
-use Rattle.words.proofs.Parts.{accepted-checked}
-use Rattle.documents.specs.Documents.{isAscending, areStarts}
+use Rattle.words.proofs.Parts.{accepted_checked}
+use Rattle.documents.specs.Documents.{is_ascending, are_starts}
 use Rattle.questions.specs.declared.Question.{Question}
-use Rattle.questions.specs.Answering.{questionAnswer}
+use Rattle.questions.specs.Answering.{question_answer}
 use Rattle.base.specs.contracts.Answer as An
 use Rattle.base.proofs.Answer.TheLaws as An'
 use Rattle.index.specs.contracts.Shape as S
 use Rattle.index.proofs.Shape.TheLaws as S'
 use Rattle.questions.specs.contracts.Question as Q
 use Rattle.questions.proofs.Question.TheLaws as Q'
-use Rattle.sheet_calls.specs.Sheets.{pair_of, sheetAnswer, sheetExit}
+use Rattle.sheet_calls.specs.Sheets.{pair_of, sheet_answer, sheet_exit}
 use Rattle.concordance.proofs.Again.{LentAgain, lends_again, comes_back}
-use Rattle.concordance.proofs.Published.{closing-128}
-use Rattle.concordance.proofs.Table.{zeros-typed, lends-zeros, lends_shared, array-room, shared-room}
+use Rattle.concordance.proofs.Published.{closing_128}
+use Rattle.concordance.proofs.Table.{zeros_typed, lends_zeros, lends_shared, array_room, shared_room}
 use Rattle.concordance.proofs.Rules.{large, tests, guards}
-use Rattle.sheet_calls.proofs.Tested.{sheet-clear, sheet-filled, sheet-untouched, after as after-questions, after_none, after_next, after-all, after-length}
+use Rattle.sheet_calls.proofs.Tested.{sheet_clear, sheet_filled, sheet_untouched, after as after-questions, after_none, after_next, after_all, after_length}
 use Rattle.sheets.specs.contracts.prepare as prepare
 use Rattle.sheets.proofs.prepare.Symbol as prepare-def
 use Rattle.sheets.proofs.prepare.Symbol.{name as #prepare}
@@ -112,7 +112,7 @@ none = record { kind = 0; w = 0; v = 0; d = pos 0; p = 0; start = 0; length = 0 
 
 -- the elements of the table
 abbrev size : ℕ
-size = maxStarts
+size = max_starts
 
 size_room : Room u32 size
 size_room = (lit< tt, lit< tt)
@@ -196,7 +196,7 @@ module _ {M : Type 1} {𝓤 : Ura M} (𝓛 : Logic 𝓤) (mem : Memory → SProp
 
   -- the answer to a question, and what the slice holds after i of them
   abbrev f : Question → Answer
-  f = questionAnswer shape.vocabulary (textIn 128 four) x₄.now x₅.now
+  f = question_answer shape.vocabulary (text_in 128 four) x₄.now x₅.now
 
   abbrev after : ℕ → List ℕ
   after = after-questions f qs zs
@@ -262,7 +262,7 @@ module _ {M : Type 1} {𝓤 : Ura M} (𝓛 : Logic 𝓤) (mem : Memory → SProp
   Post = (walk_of 𝓛 sheet.ended stayed (sheet.clauses 𝓛 mem run)).post bound
 
   abbrev Goal : Answer → List ℕ → Type 0
-  Goal r ws = (r ≡ sheetAnswer 128 shape four x₄.now n (length zs)) × (ws ≡ sheetExit 128 shape four x₄.now x₅.now qs zs)
+  Goal r ws = (r ≡ sheet_answer 128 shape four x₄.now n (length zs)) × (ws ≡ sheet_exit 128 shape four x₄.now x₅.now qs zs)
 
   -- what is had: of answers at the list ws; of five slices, those of the index and the documents, and their tokens; of the words; of the questions
   abbrev Own : List ℕ → Fml
@@ -333,7 +333,7 @@ module _ {M : Type 1} {𝓤 : Ura M} (𝓛 : Logic 𝓤) (mem : Memory → SProp
     goes-prepare : Is S.the_row shape (sh ∷ []) → Room Q.the_row n → Room u32 (length zs) → length ys ≡ size
         → ent 𝓤 (⋆ 𝓛 (Tok ∷ ‵ (flft (ν ∷ []) full_share) ∷ Shr ∷ ‵ (Tab l ν δ ys) ∷ [])) ((Prepare 𝓛 mem run).pre to-prepare)
     goes-prepare isS rq ra full =
-        qed 𝓛 (Tok ∷ ‵ (flft (ν ∷ []) full_share) ∷ Shr ∷ ‵ (Tab l ν δ ys) ∷ []) ∵ says ! (closing-128, omega (arith, full)) $
+        qed 𝓛 (Tok ∷ ‵ (flft (ν ∷ []) full_share) ∷ Shr ∷ ‵ (Tab l ν δ ys) ∷ []) ∵ says ! (closing_128, omega (arith, full)) $
         split ! $ move ! (1 ∷ []) $ split ! $ move ! (1 ∷ []) $ split ! $ move ! (1 ∷ []) $ split ! $
         -- [the tokens of blocks, documents, superblocks, bytes and lengths; ν; the five slices; the table]
         nothing ! $ move ! (6 ∷ 0 ∷ []) $ join ! $ move ! (2 ∷ 0 ∷ []) $ join ! $ move ! (1 ∷ 0 ∷ []) $ join ! $ move ! (1 ∷ 0 ∷ []) $ join ! $ move ! (1 ∷ 0 ∷ []) $ join ! $ move ! (1 ∷ 0 ∷ []) $ join ! $ frame ! $
@@ -345,10 +345,10 @@ module _ {M : Type 1} {𝓤 : Ura M} (𝓛 : Logic 𝓤) (mem : Memory → SProp
 
     -- what `prepare` says of its answer and of the last list of the table
     abbrev SaidP : Answer → List ℕ → Type 0
-    SaidP r ws = (r ≡ sheetAnswer 128 shape four x₄.now n (length zs)) × (r.refusal ≡ 0 → (isAscending x₄.now ≡ true) × NodeStarts x₀.now ws)
+    SaidP r ws = (r ≡ sheet_answer 128 shape four x₄.now n (length zs)) × (r.refusal ≡ 0 → (is_ascending x₄.now ≡ true) × NodeStarts x₀.now ws)
 
     abbrev HadP : Val → Answer × List ℕ → Item 𝓤
-    HadP v u = given (Is An.the_row u.0 (v ∷ []) × (u.0 ≡ sheetAnswer 128 shape four x₄.now n (length zs)) × (u.0.refusal ≡ 0 → (isAscending x₄.now ≡ true) × NodeStarts x₀.now u.1)) (Tok ⊛ (‵ (flft (ν ∷ []) full_share) ⊛ ‵ (finally u32 δ u.1)))
+    HadP v u = given (Is An.the_row u.0 (v ∷ []) × (u.0 ≡ sheet_answer 128 shape four x₄.now n (length zs)) × (u.0.refusal ≡ 0 → (is_ascending x₄.now ≡ true) × NodeStarts x₀.now u.1)) (Tok ⊛ (‵ (flft (ν ∷ []) full_share) ⊛ ‵ (finally u32 δ u.1)))
 
     abbrev Prepared : Val → Item 𝓤
     Prepared v = later (some (HadP v))
@@ -385,7 +385,7 @@ module _ {M : Type 1} {𝓤 : Ura M} (𝓛 : Logic 𝓤) (mem : Memory → SProp
       tt,
     )
 
-    goes-next : Is S.the_row shape (sh ∷ []) → Is Q.the_row (asked i) (LL.vals Q.the_type Q'.the_laws (asked i)) → i < 2 ^ 64 → Ready 128 shape four ys → isAscending x₄.now ≡ true → 2 * i + 1 < length (after i)
+    goes-next : Is S.the_row shape (sh ∷ []) → Is Q.the_row (asked i) (LL.vals Q.the_type Q'.the_laws (asked i)) → i < 2 ^ 64 → Ready 128 shape four ys → is_ascending x₄.now ≡ true → 2 * i + 1 < length (after i)
         → ent 𝓤 (⋆ 𝓛 (Tok ∷ ‵ (flft (ν ∷ []) full_share) ∷ ‵ (flft κ₅ q₅) ∷ ‵ (flft (ν' ∷ []) full_share) ∷ Shr ∷ ‵ (Tbl l ν δ ys) ∷ Wrd ∷ ‵ Again ∷ [])) ((Next 𝓛 mem run).pre to-next)
     goes-next isS is fits ready ascends within =
         qed 𝓛 (Tok ∷ ‵ (flft (ν ∷ []) full_share) ∷ ‵ (flft κ₅ q₅) ∷ ‵ (flft (ν' ∷ []) full_share) ∷ Shr ∷ ‵ (Tbl l ν δ ys) ∷ Wrd ∷ ‵ Again ∷ []) ∵ says ! (ready, ascends, within) $
@@ -450,11 +450,11 @@ module _ {M : Type 1} {𝓤 : Ura M} (𝓛 : Logic 𝓤) (mem : Memory → SProp
   next : (i : ℕ) → i < n → written (pair_of (f (asked i))) (2 * i) (after i) ≡ after (suc i)
   next i h = after_next f qs zs i none h
 
-  turned_down : (r : Answer) → r ≡ sheetAnswer 128 shape four x₄.now n (length zs) → T (not (eqb r.refusal 0)) → Goal r zs
-  turned_down r told y = (told, sym (sheet-untouched 128 shape four x₄.now x₅.now qs zs (ap isAccepted (sym told) ∙ ne_eqb r.refusal 0 (was-refused r y))))
+  turned_down : (r : Answer) → r ≡ sheet_answer 128 shape four x₄.now n (length zs) → T (not (eqb r.refusal 0)) → Goal r zs
+  turned_down r told y = (told, sym (sheet_untouched 128 shape four x₄.now x₅.now qs zs (ap is_accepted (sym told) ∙ ne_eqb r.refusal 0 (was-refused r y))))
 
-  whole-sheet : (r : Answer) → r ≡ sheetAnswer 128 shape four x₄.now n (length zs) → r.refusal ≡ 0 → (i : ℕ) → i ≡ n → Goal r (after i)
-  whole-sheet r told e i done' = (told, ap after done' ∙ after-all f qs zs ∙ sym (sheet-filled 128 shape four x₄.now x₅.now qs zs (ap isAccepted (sym told) ∙ eq-eqb r.refusal 0 e)))
+  whole-sheet : (r : Answer) → r ≡ sheet_answer 128 shape four x₄.now n (length zs) → r.refusal ≡ 0 → (i : ℕ) → i ≡ n → Goal r (after i)
+  whole-sheet r told e i done' = (told, ap after done' ∙ after_all f qs zs ∙ sym (sheet_filled 128 shape four x₄.now x₅.now qs zs (ap is_accepted (sym told) ∙ eq-eqb r.refusal 0 e)))
 
   module _ (𝓣 : Tables 𝓤 H) (prepared : Triple 𝓤 (𝓣.C #prepare) (Prepare 𝓛 mem run)) (answers : Triple 𝓤 (𝓣.C #answer-next) (Next 𝓛 mem run))
       (isS : Is S.the_row shape (sh ∷ [])) (r₀ : Room u32 (length x₀.now)) (r₁ : Room u8 (length x₁.now)) (r₂ : Room u32 (length x₂.now)) (r₃ : Room u16 (length x₃.now)) (r₄ : Room u32 (length x₄.now)) (r₅ : Room u32 (length x₅.now))
@@ -495,7 +495,7 @@ module _ {M : Type 1} {𝓤 : Ura M} (𝓛 : Logic 𝓤) (mem : Memory → SProp
         keep ! (3 ∷ 5 ∷ 7 ∷ 1 ∷ 0 ∷ []) $ by ! (exits r ws is e len)
 
     -- past the check: the table ys, lent for the lifetime ν under the name δ, has the starts of the nodes, and the answer is that of an accepted sheet
-    module _ (r : Answer) (is_a : Is An.the_row r (va r ∷ [])) (told : r ≡ sheetAnswer 128 shape four x₄.now n (length zs)) (yes' : r.refusal ≡ 0) (ys : List ℕ) (δ : GName) (ν : ℕ) (full : length ys ≡ size) (ascends : isAscending x₄.now ≡ true) (starts : NodeStarts x₀.now ys) where
+    module _ (r : Answer) (is_a : Is An.the_row r (va r ∷ [])) (told : r ≡ sheet_answer 128 shape four x₄.now n (length zs)) (yes' : r.refusal ≡ 0) (ys : List ℕ) (δ : GName) (ν : ℕ) (full : length ys ≡ size) (ascends : is_ascending x₄.now ≡ true) (starts : NodeStarts x₀.now ys) where
       -- the table, lent, its token, and what the function keeps of it
       abbrev Table : List (Item 𝓤) → List (Item 𝓤)
       Table Γ = ‵ (Tbl l₁₀ ν δ ys) ∷ ‵ (flft (ν ∷ []) full_share) ∷ ‵ (flent (ν ∷ []) ((arr_parts (shares u32) (length ys)).part full_share ys l₁₀ 0)) ∷ Γ
@@ -511,14 +511,14 @@ module _ {M : Type 1} {𝓤 : Ura M} (𝓛 : Logic 𝓤) (mem : Memory → SProp
       far : (i : ℕ) → i < n → i * 40 < 2 ^ 64
       far i l = omega (arith, rq.1)
 
-      clear : (checkAnswer 128 shape four ≡ accepted 0) × (areStarts (length (textIn 128 four)) x₄.now ≡ true) × (2 * n ≤ length zs)
-      clear = sheet-clear 128 shape four x₄.now n (length zs) (ap (λ (a : Answer). a.refusal) (sym told) ∙ yes')
+      clear : (check_answer 128 shape four ≡ accepted 0) × (are_starts (length (text_in 128 four)) x₄.now ≡ true) × (2 * n ≤ length zs)
+      clear = sheet_clear 128 shape four x₄.now n (length zs) (ap (λ (a : Answer). a.refusal) (sym told) ∙ yes')
 
       ready : Ready 128 shape four ys
-      ready = record { checked = accepted-checked 128 closing-128 shape four (ap (λ (a : Answer). a.refusal) clear.0); nodes = starts }
+      ready = record { checked = accepted_checked 128 closing_128 shape four (ap (λ (a : Answer). a.refusal) clear.0); nodes = starts }
 
       len : (i : ℕ) → i ≤ n → length (after i) ≡ length zs
-      len i h = after-length f qs zs clear.2 i h
+      len i h = after_length f qs zs clear.2 i h
 
       turn : (i : ℕ) → Sq 𝓛 (Inv i) (runs C Λ En text.turn-1 (any_q (after_turn 𝓤 H (Below 𝓛 less Inv i) Left)))
       unfolding after_turn
@@ -566,7 +566,7 @@ module _ {M : Type 1} {𝓤 : Ura M} (𝓛 : Logic 𝓤) (mem : Memory → SProp
           (λ z. let e : i ≡ n = omega (arith, nltb→le i n z) in
           exec ! C Λ En text.t-11 (at_ret En Post) $
           -- the table is taken back, and is room
-          drop ! $ lft_end ! tt $ lent_back ! tt $ use1 𝓛 (‵ (froom table l₁₀ 0)) (shared-room 𝓛 size l₁₀ ys full) $
+          drop ! $ lft_end ! tt $ lent_back ! tt $ use1 𝓛 (‵ (froom table l₁₀ 0)) (shared_room 𝓛 size l₁₀ ys full) $
           assigns ! (of_opd ! (load ! (from ! (stop !)) (look ! 37 refl))) (from ! (stop !)) (init ! 58 refl ((LL.lawful An.the_type An'.the_laws 𝓛).typed r _ is_a).0) $
           returns ! (look ! 58 refl) $ forget ! 21 refl $ forget ! 23 refl $ forget ! 35 refl $ forget ! 37 refl $ forget ! 40 refl $ forget ! 42 refl $ forget ! 44 refl $ forget ! 46 refl $ forget ! 48 refl $ forget ! 50 refl $ forget ! 52 refl $ forget ! 54 refl $ forget ! 56 refl $ forget ! 58 refl $
           ends r (after i) is_a (whole-sheet r told yes' i e) (len i (omega arith))))
@@ -574,14 +574,14 @@ module _ {M : Type 1} {𝓤 : Ura M} (𝓛 : Logic 𝓤) (mem : Memory → SProp
     -- the body: the table is made and lent to `prepare`, a sheet that is turned down returns, and the questions of the others are looped over
     body : Sq 𝓛 (‵ (froom table l₁₀ 0) ∷ Lent zs (Given-locals (froom An'.mir l₁₁ 0) (froom word l₁₂ 0))) (runs C Λ En text.t-1 (at_ret En Post))
     body =
-        assigns ! (rep ! size (lit ! tt)) (from ! (stop !)) (init ! 0 refl (zeros-typed size)) $
+        assigns ! (rep ! size (lit ! tt)) (from ! (stop !)) (init ! 0 refl (zeros_typed size)) $
         assigns ! (of_opd ! (load ! (from ! (fld ! refl (stop !))) (look_in ! 42 (sub ! 1 refl (whole !))))) (from ! (stop !)) (init ! 33 refl (tt, record { fits = rq.0 })) $
         assigns ! (of_opd ! (load ! (from ! (fld ! refl (stop !))) (look_in ! 40 (sub ! 1 refl (whole !))))) (from ! (stop !)) (init ! 31 refl (tt, record { fits = ra.0 })) $
         assigns ! (addr ! (from ! (stop !))) (from ! (stop !)) (init ! 29 refl (tt, tt)) $
         assigns ! (agg ! (and_then ! (load ! (from ! (stop !)) (look ! 29 refl)) (and_then ! (large ! size_fits) (no_more !)))) (from ! (stop !)) (init ! 27 refl (tt, (tt, (size_fits, tt)))) $
         -- the table is lent for a lifetime ν of the call, and the five slices are copied
         lft_new ! tt (λ ν. move ! (1 ∷ []) $
-        use1 𝓛 (LentZeros l₁₀ ν) (lends-zeros 𝓛 size l₁₀ (named 5) (ν ∷ []) size_room) $ await ! tt $ pick ! (λ t. learn ! (λ full. split ! $
+        use1 𝓛 (LentZeros l₁₀ ν) (lends_zeros 𝓛 size l₁₀ (named 5) (ν ∷ []) size_room) $ await ! tt $ pick ! (λ t. learn ! (λ full. split ! $
         -- [the table; what is kept of it; ν; the slice to be filled; its token; the five slices; their tokens; …]
         move ! (5 ∷ []) $ use1 𝓛 (Shr ⊛ Shr) five-twice $ split ! $
         move ! (7 ∷ 4 ∷ 0 ∷ 2 ∷ []) $ cut (Tok ∷ ‵ (flft (ν ∷ []) full_share) ∷ Shr ∷ ‵ (Tab l₁₀ ν t.1 t.0) ∷ []) (raw ((Prepare 𝓛 mem run).pre (to-prepare l₁₀ t.0 t.1 ν)) ∷ []) _
@@ -596,7 +596,7 @@ module _ {M : Type 1} {𝓤 : Ura M} (𝓛 : Logic 𝓤) (mem : Memory → SProp
         rewrite ! 37 (λ (v' : Val). ‵ (fat full_share An'.mir l₁₁ 0 v')) (ap only (LL.tells An.the_type An'.the_laws u.0 _ e.0)) refl $ move ! (0 ∷ 3 ∷ 4 ∷ 2 ∷ 1 ∷ []) $
         assigns ! (bin ! (load ! (from ! (fld ! refl (stop !))) (look_in ! 37 (sub ! 0 refl (whole !)))) (lit ! tt) tt) (from ! (stop !)) (init ! 25 refl (tt, tt)) $
         guards ! (load ! (from ! (stop !)) (look ! 25 refl))
-        (λ y. use1 𝓛 (‵ (froom table l₁₀ 0)) (array-room 𝓛 size l₁₀ u.1) $
+        (λ y. use1 𝓛 (‵ (froom table l₁₀ 0)) (array_room 𝓛 size l₁₀ u.1) $
         assigns ! (of_opd ! (load ! (from ! (stop !)) (look ! 37 refl))) (from ! (stop !)) (init ! 58 refl ((LL.lawful An.the_type An'.the_laws 𝓛).typed u.0 _ (canon u.0 v e.0)).0) $ returns_within ! Post refl (look ! 58 refl) $
         forget ! 25 refl $ forget ! 27 refl $ forget ! 29 refl $ forget ! 31 refl $ forget ! 33 refl $ forget ! 37 refl $ forget ! 40 refl $ forget ! 42 refl $ forget ! 44 refl $ forget ! 46 refl $ forget ! 48 refl $ forget ! 50 refl $ forget ! 52 refl $ forget ! 54 refl $ forget ! 56 refl $ forget ! 58 refl $ ends u.0 zs (canon u.0 v e.0) (turned_down u.0 e.1 y) refl)
         (λ z. lft_new ! tt (λ ν₂. move ! (1 ∷ []) $

@@ -4,8 +4,8 @@ use mathlib.Core.Path.{sym}
 use native.Mathlib.Omega.{arith}
 use borrow.Author.Rules.{rules}
 use Rattle.tallies.specs.Tallies.{counters}
-use Rattle.tallies.proofs.Sums.{counters-length, counters-at, counter-fits}
-use Rattle.tallies.proofs.Tables.{Compared, compared-start, compared-next, compared-end}
+use Rattle.tallies.proofs.Sums.{counters_length, counters_at, counter_fits}
+use Rattle.tallies.proofs.Tables.{Compared, compared_start, compared_next, compared_end}
 use Rattle.counter_checks.proofs.same_block.Statement.{statement}
 use Rattle.counter_checks.proofs.same_block.Tie as tie
 
@@ -19,7 +19,7 @@ mul_at : tie.Need-overflow-mul-at invariant-loop decreases-loop
 mul_at c = search rules
 
 loop-holds : tie.Need-loop-init invariant-loop decreases-loop
-loop-holds c = compared-start c.args.blocks.now c.args.row (counters c.args.lanes.now)
+loop-holds c = compared_start c.args.blocks.now c.args.row (counters c.args.lanes.now)
 
 add-equal : tie.Need-overflow-add-equal invariant-loop decreases-loop
 add-equal c = search rules
@@ -48,7 +48,7 @@ element-copy-out-equal-2 c = search rules
 add-equal-3 : tie.Need-overflow-add-equal-3 invariant-loop decreases-loop
 add-equal-3 c =
     let s = c.before.before.before.before.before in
-    omega (arith, counter-fits s.args.lanes.now s.requires.1 c.before.before.before.before.loop.x c.before.before.before.loop-test.true)
+    omega (arith, counter_fits s.args.lanes.now s.requires.1 c.before.before.before.before.loop.x c.before.before.before.loop-test.true)
 
 add-x : tie.Need-overflow-add-x invariant-loop decreases-loop
 add-x c = search rules
@@ -59,12 +59,12 @@ loop-less c = search rules
 loop-again : tie.Need-loop-preserved invariant-loop decreases-loop
 loop-again c =
     let a = c.before.before.before.before.before.args in
-    compared-next a.blocks.now a.row (counters a.lanes.now) (omega arith) (counters-length a.lanes.now) c.before.before.before.before.loop.invariant _ (sym (counters-at a.lanes.now c.before.before.before.before.loop.x c.before.before.before.loop-test.true)) (omega arith)
+    compared_next a.blocks.now a.row (counters a.lanes.now) (omega arith) (counters_length a.lanes.now) c.before.before.before.before.loop.invariant _ (sym (counters_at a.lanes.now c.before.before.before.before.loop.x c.before.before.before.loop-test.true)) (omega arith)
 
 returns : tie.Need-returns invariant-loop decreases-loop
 returns c =
     let a = c.before.before.args in
-    compared-end a.blocks.now a.row (counters a.lanes.now) (omega arith) (counters-length a.lanes.now) c.before.loop.invariant (omega arith)
+    compared_end a.blocks.now a.row (counters a.lanes.now) (omega arith) (counters_length a.lanes.now) c.before.loop.invariant (omega arith)
 
 pub same-block-spec : {M : Type 1} → statement M
 same-block-spec =

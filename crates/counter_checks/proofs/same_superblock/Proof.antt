@@ -3,7 +3,7 @@ use Prim.Native.Nat.{◌-◌}
 use mathlib.Core.Path.{refl}
 use native.Mathlib.Omega.{arith}
 use borrow.Author.Rules.{rules}
-use Rattle.tallies.proofs.Tables.{Compared, compared-start, compared-next, compared-end}
+use Rattle.tallies.proofs.Tables.{Compared, compared_start, compared_next, compared_end}
 use Rattle.counter_checks.proofs.same_superblock.Statement.{statement}
 use Rattle.counter_checks.proofs.same_superblock.Tie as tie
 
@@ -17,7 +17,7 @@ mul_at : tie.Need-overflow-mul-at invariant-loop decreases-loop
 mul_at c = search rules
 
 loop-holds : tie.Need-loop-init invariant-loop decreases-loop
-loop-holds c = compared-start c.args.superblocks.now c.args.row c.args.totals.now
+loop-holds c = compared_start c.args.superblocks.now c.args.row c.args.totals.now
 
 add-equal : tie.Need-overflow-add-equal invariant-loop decreases-loop
 add-equal c = search rules
@@ -43,12 +43,12 @@ loop-less c = search rules
 loop-again : tie.Need-loop-preserved invariant-loop decreases-loop
 loop-again c =
     let a = c.before.before.before.before.args in
-    compared-next a.superblocks.now a.row a.totals.now (omega arith) (omega arith) c.before.before.before.loop.invariant _ refl (omega arith)
+    compared_next a.superblocks.now a.row a.totals.now (omega arith) (omega arith) c.before.before.before.loop.invariant _ refl (omega arith)
 
 returns : tie.Need-returns invariant-loop decreases-loop
 returns c =
     let a = c.before.before.args in
-    compared-end a.superblocks.now a.row a.totals.now (omega arith) (omega arith) c.before.loop.invariant (omega arith)
+    compared_end a.superblocks.now a.row a.totals.now (omega arith) (omega arith) c.before.loop.invariant (omega arith)
 
 pub same-superblock-spec : {M : Type 1} → statement M
 same-superblock-spec =

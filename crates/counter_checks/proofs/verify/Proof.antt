@@ -6,29 +6,29 @@ use native.Mathlib.Omega.{arith}
 use borrow.Author.Rules.{rules}
 use borrow.Author.Tests.{not-true, not-false}
 use lib.ListN.{length}
-use Rattle.directory.specs.Counters.{superblockRow, block_row, superblockRows, blockRows}
-use Rattle.directory.proofs.Rows.{superblock-row-length, block-row-length, superblock-some, superblock-rows-length, block-rows-length, is-directory, not-directory}
+use Rattle.directory.specs.Counters.{superblock_row, block_row, superblock_rows, block_rows}
+use Rattle.directory.proofs.Rows.{superblock_row_length, block_row_length, superblock_some, superblock_rows_length, block_rows_length, is_directory_lem, not_directory}
 use Rattle.tallies.specs.Tallies.{BeginsWithRows}
-use Rattle.tallies.proofs.Tables.{begins-none, right-row, wrong_row, begins-whole}
-use Rattle.tallies.proofs.Turns.{Totalled, rows_to, totalled-start, totalled-length, totalled-reached, totalled-next, rows_none, rows_next, rows_all}
+use Rattle.tallies.proofs.Tables.{begins_none, right_row, wrong_row, begins_whole}
+use Rattle.tallies.proofs.Turns.{Totalled, rows_to, totalled_start, totalled_length, totalled_reached, totalled_next, rows_none, rows_next, rows_all}
 use Rattle.counter_checks.proofs.verify.Statement.{statement}
 use Rattle.counter_checks.proofs.verify.Tie as tie
 
 abbrev invariant-loop : tie.invariant-loop
 invariant-loop bytes superblocks blocks block per end totals₀ superblock₀ totals superblock =
-    Totalled block per bytes end superblock totals × BeginsWithRows (superblockRow block per bytes) superblock superblocks
+    Totalled block per bytes end superblock totals × BeginsWithRows (superblock_row block per bytes) superblock superblocks
     × BeginsWithRows (block_row block per bytes) (rows_to block per bytes superblock) blocks
 
 abbrev decreases-loop : tie.decreases-loop
 decreases-loop bytes superblocks blocks block per end totals₀ superblock₀ totals superblock = end - superblock
 
 mul-row-count : tie.Need-overflow-mul-row-count invariant-loop decreases-loop
-mul-row-count c = omega (arith, c.before.before.before.requires.superblock-most)
+mul-row-count c = omega (arith, c.before.before.before.requires.superblock_most)
 
 row-count-requires : tie.Need-row-count-requires invariant-loop decreases-loop
 row-count-requires c κs =
     let sizes = c.before.before.before.requires in
-    (superblock-some sizes, sizes.bytes_most)
+    (superblock_some sizes, sizes.bytes_most)
 
 mul-if1 : tie.Need-overflow-mul-if1 invariant-loop decreases-loop
 mul-if1 c =
@@ -39,13 +39,13 @@ mul-if1 c =
 returns : tie.Need-returns invariant-loop decreases-loop
 returns c =
     let a = c.before.before.before.before.before.args in
-    sym (not-directory a.block a.per a.bytes.now a.superblocks.now a.blocks.now (λ d.
-    omega (arith, c.if1.true, ap length d.superblocks-are, superblock-rows-length a.block a.per a.bytes.now, c.before.row_count.ensures)))
+    sym (not_directory a.block a.per a.bytes.now a.superblocks.now a.blocks.now (λ d.
+    omega (arith, c.if1.true, ap length d.superblocks_are, superblock_rows_length a.block a.per a.bytes.now, c.before.row_count.ensures)))
 
 row-count-requires-2 : tie.Need-row-count-requires-2 invariant-loop decreases-loop
 row-count-requires-2 c κs =
     let sizes = c.before.before.before.before.before.requires in
-    (sizes.block-some, sizes.bytes_most)
+    (sizes.block_some, sizes.bytes_most)
 
 mul-if2 : tie.Need-overflow-mul-if2 invariant-loop decreases-loop
 mul-if2 c =
@@ -56,33 +56,33 @@ mul-if2 c =
 returns-2 : tie.Need-returns-2 invariant-loop decreases-loop
 returns-2 c =
     let a = c.before.before.before.before.before.before.before.args in
-    sym (not-directory a.block a.per a.bytes.now a.superblocks.now a.blocks.now (λ d.
-    omega (arith, c.if2.true, ap length d.blocks-are, block-rows-length a.block a.per a.bytes.now, c.before.row-count2.ensures)))
+    sym (not_directory a.block a.per a.bytes.now a.superblocks.now a.blocks.now (λ d.
+    omega (arith, c.if2.true, ap length d.blocks_are, block_rows_length a.block a.per a.bytes.now, c.before.row-count2.ensures)))
 
 loop-holds : tie.Need-loop-init invariant-loop decreases-loop
 loop-holds c =
     let r = c.before.before.before in
     let a = r.before.before.before.before.args in (
-      totalled-start a.block a.per a.bytes.now r.row_count.result r.row_count.ensures,
-      begins-none (superblockRow a.block a.per a.bytes.now) a.superblocks.now,
-      rw (rows_none a.block a.per a.bytes.now) (begins-none (block_row a.block a.per a.bytes.now) a.blocks.now),
+      totalled_start a.block a.per a.bytes.now r.row_count.result r.row_count.ensures,
+      begins_none (superblock_row a.block a.per a.bytes.now) a.superblocks.now,
+      rw (rows_none a.block a.per a.bytes.now) (begins_none (block_row a.block a.per a.bytes.now) a.blocks.now),
     )
 
 same-superblock-requires : tie.Need-same-superblock-requires invariant-loop decreases-loop
 same-superblock-requires c κs =
     let i = c.before in
-    (omega (arith, i.loop-test.true, i.before.before.before.before.if1.false), totalled-length i.before.loop.invariant.0)
+    (omega (arith, i.loop-test.true, i.before.before.before.before.if1.false), totalled_length i.before.loop.invariant.0)
 
 returns-3 : tie.Need-returns-3 invariant-loop decreases-loop
-unfolding superblockRows
+unfolding superblock_rows
 returns-3 c =
     let i = c.before.before.before in
     let a = i.before.before.before.before.before.before.before.before.before.args in
     let l = i.before.loop in
     let same = c.before.same-superblock in
-    sym (not-directory a.block a.per a.bytes.now a.superblocks.now a.blocks.now (λ d.
-    wrong_row (superblockRow a.block a.per a.bytes.now) (superblock-row-length a.block a.per a.bytes.now) (suc (length a.bytes.now / (a.block * a.per))) l.superblock a.superblocks.now l.totals
-    (omega (arith, i.loop-test.true, l.invariant.0.ends)) l.invariant.0.total (sym same.ensures ∙ not-true same.result c.if3.true) d.superblocks-are))
+    sym (not_directory a.block a.per a.bytes.now a.superblocks.now a.blocks.now (λ d.
+    wrong_row (superblock_row a.block a.per a.bytes.now) (superblock_row_length a.block a.per a.bytes.now) (suc (length a.bytes.now / (a.block * a.per))) l.superblock a.superblocks.now l.totals
+    (omega (arith, i.loop-test.true, l.invariant.0.ends)) l.invariant.0.total (sym same.ensures ∙ not-true same.result c.if3.true) d.superblocks_are))
 
 verify-superblock-requires : tie.Need-verify-superblock-requires invariant-loop decreases-loop
 verify-superblock-requires c κs =
@@ -90,14 +90,14 @@ verify-superblock-requires c κs =
     let o = i.before.before in
     let s = o.before.before.before.before.before.before.before in
     let l = i.before.loop in
-    (s.requires, totalled-reached s.requires l.invariant.0 s.args.blocks.now i.loop-test.true l.invariant.2, omega (arith, o.if2.false, o.before.row-count2.ensures))
+    (s.requires, totalled_reached s.requires l.invariant.0 s.args.blocks.now i.loop-test.true l.invariant.2, omega (arith, o.if2.false, o.before.row-count2.ensures))
 
 returns-4 : tie.Need-returns-4 invariant-loop decreases-loop
 returns-4 c =
     let i = c.before.before.before.before.before.before in
     let a = i.before.before.before.before.before.before.before.before.before.args in
     let passed = c.before.verify-superblock in
-    sym (not-directory a.block a.per a.bytes.now a.superblocks.now a.blocks.now (λ d. passed.ensures.no (not-true passed.result c.if4.true) d.blocks-are))
+    sym (not_directory a.block a.per a.bytes.now a.superblocks.now a.blocks.now (λ d. passed.ensures.no (not-true passed.result c.if4.true) d.blocks_are))
 
 add-superblock : tie.Need-overflow-add-superblock invariant-loop decreases-loop
 add-superblock c = search rules
@@ -114,24 +114,24 @@ loop-again c =
     let same = c.before.before.before.before.same-superblock in
     let passed = c.before.verify-superblock in
     let p = passed.ensures.yes (not-false passed.result c.if4.false) in (
-      totalled-next s.requires l.invariant.0 i.loop-test.true _ p.1,
-      right-row (superblockRow a.block a.per a.bytes.now) (superblock-row-length a.block a.per a.bytes.now) l.superblock a.superblocks.now l.totals l.invariant.1
+      totalled_next s.requires l.invariant.0 i.loop-test.true _ p.1,
+      right_row (superblock_row a.block a.per a.bytes.now) (superblock_row_length a.block a.per a.bytes.now) l.superblock a.superblocks.now l.totals l.invariant.1
           l.invariant.0.total (sym same.ensures ∙ not-false same.result c.before.before.before.if3.false),
       rw (rows_next s.requires l.invariant.0) at p.0,
     )
 
 returns-5 : tie.Need-returns-5 invariant-loop decreases-loop
-unfolding superblockRows blockRows
+unfolding superblock_rows block_rows
 returns-5 c =
     let o = c.before.before in
     let s = o.before.before.before.before.before.before.before in
     let a = s.args in
     let l = c.before.loop in
     let e : l.superblock ≡ suc (length a.bytes.now / (a.block * a.per)) = omega (arith, l.invariant.0.most, l.invariant.0.ends, c.loop-test.false) in
-    sym (is-directory a.block a.per a.bytes.now a.superblocks.now a.blocks.now (record {
-      superblocks-are = begins-whole (superblockRow a.block a.per a.bytes.now) (superblock-row-length a.block a.per a.bytes.now) (suc (length a.bytes.now / (a.block * a.per))) a.superblocks.now
+    sym (is_directory_lem a.block a.per a.bytes.now a.superblocks.now a.blocks.now (record {
+      superblocks_are = begins_whole (superblock_row a.block a.per a.bytes.now) (superblock_row_length a.block a.per a.bytes.now) (suc (length a.bytes.now / (a.block * a.per))) a.superblocks.now
           (omega (arith, o.before.before.if1.false, o.before.before.before.row_count.ensures)) (rw e at l.invariant.1);
-      blocks-are = begins-whole (block_row a.block a.per a.bytes.now) (block-row-length a.block a.per a.bytes.now) (suc (length a.bytes.now / a.block)) a.blocks.now
+      blocks_are = begins_whole (block_row a.block a.per a.bytes.now) (block_row_length a.block a.per a.bytes.now) (suc (length a.bytes.now / a.block)) a.blocks.now
           (omega (arith, o.if2.false, o.before.row-count2.ensures)) (rw (rows_all s.requires l.invariant.0 c.loop-test.false) at l.invariant.2);
     }))
 

@@ -6,19 +6,19 @@ use native.Mathlib.Omega.{arith}
 use borrow.Author.Rules.{rules}
 use lib.ListN.{length}
 use Rattle.base.specs.Answers.{front}
-use Rattle.directory.specs.Counters.{superblockRow, block_row, superblockRows, blockRows}
-use Rattle.directory.specs.Tables.{firstRows}
-use Rattle.directory.proofs.Rows.{superblock-row-length, block-row-length, superblock-some, superblock-rows-length, block-rows-length}
-use Rattle.tallies.specs.Tallies.{rowsEnd}
-use Rattle.tallies.proofs.Tables.{rows-length, rows-put, rows-over, begins-none, begins-front, front-begins}
-use Rattle.tallies.proofs.Turns.{Totalled, rows_to, totalled-start, totalled-length, totalled-reached, totalled-next, rows_none, rows_next, rows_all}
+use Rattle.directory.specs.Counters.{superblock_row, block_row, superblock_rows, block_rows}
+use Rattle.directory.specs.Tables.{first_rows}
+use Rattle.directory.proofs.Rows.{superblock_row_length, block_row_length, superblock_some, superblock_rows_length, block_rows_length}
+use Rattle.tallies.specs.Tallies.{rows_end}
+use Rattle.tallies.proofs.Tables.{rows_length, rows_put, rows_over, begins_none, begins_front, front_begins}
+use Rattle.tallies.proofs.Turns.{Totalled, rows_to, totalled_start, totalled_length, totalled_reached, totalled_next, rows_none, rows_next, rows_all}
 use Rattle.counters.proofs.fill.Statement.{statement}
 use Rattle.counters.proofs.fill.Tie as tie
 
 abbrev invariant-loop : tie.invariant-loop
 invariant-loop bytes superblocks₀ blocks₀ block per totals₀ end superblock₀ superblocks blocks totals superblock =
-    Totalled block per bytes end superblock totals × (superblocks ≡ front (firstRows (superblockRow block per bytes) superblock) superblocks₀)
-    × (blocks ≡ front (firstRows (block_row block per bytes) (rows_to block per bytes superblock)) blocks₀)
+    Totalled block per bytes end superblock totals × (superblocks ≡ front (first_rows (superblock_row block per bytes) superblock) superblocks₀)
+    × (blocks ≡ front (first_rows (block_row block per bytes) (rows_to block per bytes superblock)) blocks₀)
 
 abbrev decreases-loop : tie.decreases-loop
 decreases-loop bytes superblocks₀ blocks₀ block per totals₀ end superblock₀ superblocks blocks totals superblock = end - superblock
@@ -29,28 +29,28 @@ long c =
     let s = c.before.before.before.before.before in
     let a = s.args in
     let l = c.loop in (
-      ap length l.invariant.1 ∙ rows-length (superblockRow a.block a.per a.bytes.now) (superblock-row-length a.block a.per a.bytes.now) l.superblock a.superblocks.now
-          (omega (arith, superblock-rows-length a.block a.per a.bytes.now, l.invariant.0.most, l.invariant.0.ends, s.requires.1)),
-      ap length l.invariant.2 ∙ rows-length (block_row a.block a.per a.bytes.now) (block-row-length a.block a.per a.bytes.now) (rows_to a.block a.per a.bytes.now l.superblock) a.blocks.now
-          (omega (arith, block-rows-length a.block a.per a.bytes.now, s.requires.2)),
+      ap length l.invariant.1 ∙ rows_length (superblock_row a.block a.per a.bytes.now) (superblock_row_length a.block a.per a.bytes.now) l.superblock a.superblocks.now
+          (omega (arith, superblock_rows_length a.block a.per a.bytes.now, l.invariant.0.most, l.invariant.0.ends, s.requires.1)),
+      ap length l.invariant.2 ∙ rows_length (block_row a.block a.per a.bytes.now) (block_row_length a.block a.per a.bytes.now) (rows_to a.block a.per a.bytes.now l.superblock) a.blocks.now
+          (omega (arith, block_rows_length a.block a.per a.bytes.now, s.requires.2)),
     )
 
 mul-row-count : tie.Need-overflow-mul-row-count invariant-loop decreases-loop
-mul-row-count c = omega (arith, c.before.before.before.requires.0.superblock-most)
+mul-row-count c = omega (arith, c.before.before.before.requires.0.superblock_most)
 
 row-count-requires : tie.Need-row-count-requires invariant-loop decreases-loop
 row-count-requires c κs =
     let sizes = c.before.before.before.requires.0 in
-    (superblock-some sizes, sizes.bytes_most)
+    (superblock_some sizes, sizes.bytes_most)
 
 loop-holds : tie.Need-loop-init invariant-loop decreases-loop
 loop-holds c =
     let a = c.before.before.before.before.args in
-    let f : ℕ → List ℕ = superblockRow a.block a.per a.bytes.now in
+    let f : ℕ → List ℕ = superblock_row a.block a.per a.bytes.now in
     let g : ℕ → List ℕ = block_row a.block a.per a.bytes.now in (
-      totalled-start a.block a.per a.bytes.now c.row_count.result c.row_count.ensures,
-      front-begins f (superblock-row-length a.block a.per a.bytes.now) 0 a.superblocks.now (begins-none f a.superblocks.now),
-      rw (rows_none a.block a.per a.bytes.now) (front-begins g (block-row-length a.block a.per a.bytes.now) 0 a.blocks.now (begins-none g a.blocks.now)),
+      totalled_start a.block a.per a.bytes.now c.row_count.result c.row_count.ensures,
+      front_begins f (superblock_row_length a.block a.per a.bytes.now) 0 a.superblocks.now (begins_none f a.superblocks.now),
+      rw (rows_none a.block a.per a.bytes.now) (front_begins g (block_row_length a.block a.per a.bytes.now) 0 a.blocks.now (begins_none g a.blocks.now)),
     )
 
 put-superblock-requires : tie.Need-put-superblock-requires invariant-loop decreases-loop
@@ -59,7 +59,7 @@ put-superblock-requires c κs =
     let s = i.before.before.before.before.before.before in
     let a = s.args in
     let t = i.before.loop.invariant.0 in
-    (omega (arith, (long i.before).0, superblock-rows-length a.block a.per a.bytes.now, i.loop-test.true, t.ends, s.requires.1), totalled-length t)
+    (omega (arith, (long i.before).0, superblock_rows_length a.block a.per a.bytes.now, i.loop-test.true, t.ends, s.requires.1), totalled_length t)
 
 fill-superblock-requires : tie.Need-fill-superblock-requires invariant-loop decreases-loop
 fill-superblock-requires c κs =
@@ -68,9 +68,9 @@ fill-superblock-requires c κs =
     let a = s.args in
     let l = i.before.loop in (
       s.requires.0,
-      totalled-reached s.requires.0 l.invariant.0 l.blocks i.loop-test.true
-          (rw l.invariant.2 (begins-front (block_row a.block a.per a.bytes.now) (block-row-length a.block a.per a.bytes.now) (rows_to a.block a.per a.bytes.now l.superblock) a.blocks.now)),
-      omega (arith, (long i.before).1, block-rows-length a.block a.per a.bytes.now, s.requires.2),
+      totalled_reached s.requires.0 l.invariant.0 l.blocks i.loop-test.true
+          (rw l.invariant.2 (begins_front (block_row a.block a.per a.bytes.now) (block_row_length a.block a.per a.bytes.now) (rows_to a.block a.per a.bytes.now l.superblock) a.blocks.now)),
+      omega (arith, (long i.before).1, block_rows_length a.block a.per a.bytes.now, s.requires.2),
     )
 
 add-superblock : tie.Need-overflow-add-superblock invariant-loop decreases-loop
@@ -86,13 +86,13 @@ loop-again c =
     let a = s.args in
     let l = i.before.loop in
     let g : ℕ → List ℕ = block_row a.block a.per a.bytes.now in
-    let end : ℕ = rowsEnd a.block a.per (length a.bytes.now) l.superblock in (
-      totalled-next s.requires.0 l.invariant.0 i.loop-test.true _ c.before.before.fill-superblock.ensures.1,
+    let end : ℕ = rows_end a.block a.per (length a.bytes.now) l.superblock in (
+      totalled_next s.requires.0 l.invariant.0 i.loop-test.true _ c.before.before.fill-superblock.ensures.1,
       c.before.before.before.before.before.before.before.put-superblock.ensures
-          ∙ rows-put (superblockRow a.block a.per a.bytes.now) (superblock-row-length a.block a.per a.bytes.now) l.superblock a.superblocks.now l.superblocks l.totals l.invariant.1 l.invariant.0.total,
-      c.before.before.fill-superblock.ensures.0 ∙ ap (front (firstRows g end)) l.invariant.2
-          ∙ rows-over g (block-row-length a.block a.per a.bytes.now) (rows_to a.block a.per a.bytes.now l.superblock) end a.blocks.now (omega arith)
-          ∙ ap (λ (n : ℕ). front (firstRows g n) a.blocks.now) (rows_next s.requires.0 l.invariant.0),
+          ∙ rows_put (superblock_row a.block a.per a.bytes.now) (superblock_row_length a.block a.per a.bytes.now) l.superblock a.superblocks.now l.superblocks l.totals l.invariant.1 l.invariant.0.total,
+      c.before.before.fill-superblock.ensures.0 ∙ ap (front (first_rows g end)) l.invariant.2
+          ∙ rows_over g (block_row_length a.block a.per a.bytes.now) (rows_to a.block a.per a.bytes.now l.superblock) end a.blocks.now (omega arith)
+          ∙ ap (λ (n : ℕ). front (first_rows g n) a.blocks.now) (rows_next s.requires.0 l.invariant.0),
     )
 
 same_length : tie.Need-same-length invariant-loop decreases-loop
@@ -102,14 +102,14 @@ same-length-2 : tie.Need-same-length-2 invariant-loop decreases-loop
 same-length-2 c = (long c.before).1
 
 returns : tie.Need-returns invariant-loop decreases-loop
-unfolding superblockRows blockRows
+unfolding superblock_rows block_rows
 returns c =
     let s = c.before.before.before.before.before.before in
     let a = s.args in
     let l = c.before.loop in
     let e : l.superblock ≡ suc (length a.bytes.now / (a.block * a.per)) = omega (arith, l.invariant.0.most, l.invariant.0.ends, c.loop-test.false) in (
-      l.invariant.1 ∙ ap (λ (n : ℕ). front (firstRows (superblockRow a.block a.per a.bytes.now) n) a.superblocks.now) e,
-      l.invariant.2 ∙ ap (λ (n : ℕ). front (firstRows (block_row a.block a.per a.bytes.now) n) a.blocks.now) (rows_all s.requires.0 l.invariant.0 c.loop-test.false),
+      l.invariant.1 ∙ ap (λ (n : ℕ). front (first_rows (superblock_row a.block a.per a.bytes.now) n) a.superblocks.now) e,
+      l.invariant.2 ∙ ap (λ (n : ℕ). front (first_rows (block_row a.block a.per a.bytes.now) n) a.blocks.now) (rows_all s.requires.0 l.invariant.0 c.loop-test.false),
     )
 
 pub fill_spec : {M : Type 1} → statement M

@@ -4,8 +4,8 @@ use mathlib.Core.Path.{sym}
 use native.Mathlib.Omega.{arith}
 use borrow.Author.Rules.{rules}
 use Rattle.tallies.specs.Tallies.{counters}
-use Rattle.tallies.proofs.Sums.{counters-length, counters-at, counter-fits}
-use Rattle.tallies.proofs.Tables.{Put, put-start, put-length, put_next, put-end}
+use Rattle.tallies.proofs.Sums.{counters_length, counters_at, counter_fits}
+use Rattle.tallies.proofs.Tables.{Put, put_start, put_length, put_next, put_end}
 use Rattle.counters.proofs.put_block.Statement.{statement}
 use Rattle.counters.proofs.put_block.Tie as tie
 
@@ -19,7 +19,7 @@ mul_at : tie.Need-overflow-mul-at invariant-loop decreases-loop
 mul_at c = search rules
 
 loop-holds : tie.Need-loop-init invariant-loop decreases-loop
-loop-holds c = put-start c.args.blocks.now c.args.row (counters c.args.lanes.now)
+loop-holds c = put_start c.args.blocks.now c.args.row (counters c.args.lanes.now)
 
 mul-blocks : tie.Need-overflow-mul-blocks invariant-loop decreases-loop
 mul-blocks c = search rules
@@ -39,7 +39,7 @@ element-copy-out-blocks-2 c = search rules
 add-blocks-2 : tie.Need-overflow-add-blocks-2 invariant-loop decreases-loop
 add-blocks-2 c =
     let s = c.before.before.before.before in
-    omega (arith, counter-fits s.args.lanes.now s.requires.1 c.before.before.before.loop.x c.before.before.loop-test.true)
+    omega (arith, counter_fits s.args.lanes.now s.requires.1 c.before.before.before.loop.x c.before.before.loop-test.true)
 
 add-blocks-3 : tie.Need-overflow-add-blocks-3 invariant-loop decreases-loop
 add-blocks-3 c = search rules
@@ -50,7 +50,7 @@ mul-blocks-3 c = search rules
 slice-write-blocks : tie.Need-slice-write-blocks invariant-loop decreases-loop
 slice-write-blocks c =
     let a = c.before.before.before.before.args in
-    omega (arith, put-length a.blocks.now a.row (counters a.lanes.now) (omega arith) (counters-length a.lanes.now) c.before.before.before.loop.invariant)
+    omega (arith, put_length a.blocks.now a.row (counters a.lanes.now) (omega arith) (counters_length a.lanes.now) c.before.before.before.loop.invariant)
 
 add-x : tie.Need-overflow-add-x invariant-loop decreases-loop
 add-x c = search rules
@@ -61,17 +61,17 @@ loop-less c = search rules
 loop-again : tie.Need-loop-preserved invariant-loop decreases-loop
 loop-again c =
     let a = c.before.before.before.before.args in
-    put_next a.blocks.now a.row (counters a.lanes.now) (omega arith) (counters-length a.lanes.now) c.before.before.before.loop.invariant _ (sym (counters-at a.lanes.now c.before.before.before.loop.x c.before.before.loop-test.true)) (omega arith)
+    put_next a.blocks.now a.row (counters a.lanes.now) (omega arith) (counters_length a.lanes.now) c.before.before.before.loop.invariant _ (sym (counters_at a.lanes.now c.before.before.before.loop.x c.before.before.loop-test.true)) (omega arith)
 
 same_length : tie.Need-same-length invariant-loop decreases-loop
 same_length c =
     let a = c.before.before.args in
-    put-length a.blocks.now a.row (counters a.lanes.now) (omega arith) (counters-length a.lanes.now) c.before.loop.invariant
+    put_length a.blocks.now a.row (counters a.lanes.now) (omega arith) (counters_length a.lanes.now) c.before.loop.invariant
 
 returns : tie.Need-returns invariant-loop decreases-loop
 returns c =
     let a = c.before.before.args in
-    put-end a.blocks.now a.row (counters a.lanes.now) c.before.loop.invariant (omega arith)
+    put_end a.blocks.now a.row (counters a.lanes.now) c.before.loop.invariant (omega arith)
 
 pub put-block-spec : {M : Type 1} → statement M
 put-block-spec =

@@ -3,7 +3,7 @@ use Prim.Native.Nat.{◌-◌}
 use mathlib.Core.Path.{refl}
 use native.Mathlib.Omega.{arith}
 use borrow.Author.Rules.{rules}
-use Rattle.tallies.proofs.Tables.{Put, put-start, put-length, put_next, put-end}
+use Rattle.tallies.proofs.Tables.{Put, put_start, put_length, put_next, put_end}
 use Rattle.counters.proofs.put_superblock.Statement.{statement}
 use Rattle.counters.proofs.put_superblock.Tie as tie
 
@@ -17,7 +17,7 @@ mul_at : tie.Need-overflow-mul-at invariant-loop decreases-loop
 mul_at c = search rules
 
 loop-holds : tie.Need-loop-init invariant-loop decreases-loop
-loop-holds c = put-start c.args.superblocks.now c.args.row c.args.totals.now
+loop-holds c = put_start c.args.superblocks.now c.args.row c.args.totals.now
 
 mul-superblocks : tie.Need-overflow-mul-superblocks invariant-loop decreases-loop
 mul-superblocks c = search rules
@@ -34,7 +34,7 @@ mul-superblocks-2 c = search rules
 slice-write-superblocks : tie.Need-slice-write-superblocks invariant-loop decreases-loop
 slice-write-superblocks c =
     let a = c.before.before.before.args in
-    omega (arith, put-length a.superblocks.now a.row a.totals.now (omega arith) (omega arith) c.before.before.loop.invariant)
+    omega (arith, put_length a.superblocks.now a.row a.totals.now (omega arith) (omega arith) c.before.before.loop.invariant)
 
 add-x : tie.Need-overflow-add-x invariant-loop decreases-loop
 add-x c = search rules
@@ -50,12 +50,12 @@ loop-again c =
 same_length : tie.Need-same-length invariant-loop decreases-loop
 same_length c =
     let a = c.before.before.args in
-    put-length a.superblocks.now a.row a.totals.now (omega arith) (omega arith) c.before.loop.invariant
+    put_length a.superblocks.now a.row a.totals.now (omega arith) (omega arith) c.before.loop.invariant
 
 returns : tie.Need-returns invariant-loop decreases-loop
 returns c =
     let a = c.before.before.args in
-    put-end a.superblocks.now a.row a.totals.now c.before.loop.invariant (omega arith)
+    put_end a.superblocks.now a.row a.totals.now c.before.loop.invariant (omega arith)
 
 pub put-superblock-spec : {M : Type 1} → statement M
 put-superblock-spec =

@@ -6,17 +6,17 @@ use mathlib.Core.List.{List, [], ◌∷◌}
 use native.Mathlib.Omega.{arith}
 use borrow.Author.Rules.{rules}
 use lib.ListN.{length, length-append}
-use Rattle.base.proofs.Ranges.{length-filter-range}
+use Rattle.base.proofs.Ranges.{length_filter_range}
 use Rattle.tree.specs.declared.Place.{Place}
-use Rattle.index.specs.Arrays.{arrays, textIn}
-use Rattle.words.proofs.Parts.{checked-some}
-use Rattle.words.proofs.Positions.{text-most}
-use Rattle.matching.specs.Sought.{hitIn}
+use Rattle.index.specs.Arrays.{arrays, text_in}
+use Rattle.words.proofs.Parts.{checked_some}
+use Rattle.words.proofs.Positions.{text_most}
+use Rattle.matching.specs.Sought.{hit_in}
 use Rattle.hits.specs.declared.Hit.{Hit}
 use Rattle.hits.specs.declared.Hit.TheVariants.{At}
-use Rattle.hits.specs.Hits.{hitsBetween, leastHit}
-use Rattle.hits.specs.Searches.{SearchFor, placeAfter}
-use Rattle.hits.proofs.Least.{hit-after, hit-below, hits_more, hits-over}
+use Rattle.hits.specs.Hits.{hits_between, least_hit}
+use Rattle.hits.specs.Searches.{SearchFor, place_after}
+use Rattle.hits.proofs.Least.{hit_after, hit_below, hits_more, hits_over}
 use Rattle.counts.proofs.count_hits.Statement.{statement}
 use Rattle.counts.proofs.count_hits.Tie as tie
 
@@ -25,17 +25,17 @@ abbrev invariant-loop : tie.invariant-loop
 invariant-loop s shape lengths bytes superblocks blocks starts documents firsts words sought end count₀ search₀ count search =
     (search.place.0 ≤ end.0)
     × SearchFor s shape (arrays lengths bytes superblocks blocks) starts words sought search
-    × (count ≡ length (hitsBetween (hitIn documents (textIn s (arrays lengths bytes superblocks blocks)) words sought) 0 search.place.0))
+    × (count ≡ length (hits_between (hit_in documents (text_in s (arrays lengths bytes superblocks blocks)) words sought) 0 search.place.0))
 
 abbrev decreases-loop : tie.decreases-loop
 decreases-loop s shape lengths bytes superblocks blocks starts documents firsts words sought end count₀ search₀ count search = end.0 - search.place.0
 
 -- the text, and the test of its places
 abbrev text : tie.Start invariant-loop decreases-loop → List ℕ
-text st = textIn st.args.s (arrays st.args.lengths.now st.args.bytes.now st.args.superblocks.now st.args.blocks.now)
+text st = text_in st.args.s (arrays st.args.lengths.now st.args.bytes.now st.args.superblocks.now st.args.blocks.now)
 
 abbrev test : tie.Start invariant-loop decreases-loop → ℕ → Bool
-test st = hitIn st.args.documents.now (text st) st.args.words.now st.args.sought
+test st = hit_in st.args.documents.now (text st) st.args.words.now st.args.sought
 
 abbrev start : tie.After-text-length invariant-loop decreases-loop → tie.Start invariant-loop decreases-loop
 start c = c.before.before.before.before.before.before.before.before.before
@@ -45,10 +45,10 @@ size : (c : tie.After-text-length invariant-loop decreases-loop) → c.text-leng
 size c = c.text-length.ensures.1 _ _ _ _ _ (start c).requires.0.searchable.ready.checked
 
 text-length-requires : tie.Need-text-length-requires invariant-loop decreases-loop
-text-length-requires c κs = checked-some c.before.before.before.before.before.before.before.before.requires.0.searchable.ready.checked
+text-length-requires c κs = checked_some c.before.before.before.before.before.before.before.before.requires.0.searchable.ready.checked
 
 add-t19 : tie.Need-overflow-add-t19 invariant-loop decreases-loop
-add-t19 c = omega (arith, size c, text-most (start c).requires.0.searchable.ready.checked)
+add-t19 c = omega (arith, size c, text_most (start c).requires.0.searchable.ready.checked)
 
 begin-requires : tie.Need-begin-requires invariant-loop decreases-loop
 begin-requires c κs = ((start c).requires.0.searchable, (start c).requires.1, omega arith)
@@ -78,17 +78,17 @@ module _ (c : tie.After-enum-told invariant-loop decreases-loop) where
   abbrev hit : Place
   hit = c.enum_told.given.0.0
 
-  least : leastHit (test (start l.before.before)) l.loop.search.place.0 end ≡ At hit
-  least = sym c.before.before.next-hit.ensures.hit-is ∙ c.enum_told.given.1
+  least : least_hit (test (start l.before.before)) l.loop.search.place.0 end ≡ At hit
+  least = sym c.before.before.next-hit.ensures.hit_is ∙ c.enum_told.given.1
 
   onward : c.before.before.next-hit.result.search.place.0 ≡ hit.0 + 1
-  onward = c.before.before.next-hit.ensures.place_is ∙ ap (λ (h : Hit). placeAfter h end) c.enum_told.given.1
+  onward = c.before.before.next-hit.ensures.place_is ∙ ap (λ (h : Hit). place_after h end) c.enum_told.given.1
 
   after : l.loop.search.place.0 ≤ hit.0
-  after = hit-after (test (start l.before.before)) l.loop.search.place.0 end hit least
+  after = hit_after (test (start l.before.before)) l.loop.search.place.0 end hit least
 
   before-end : hit.0 < end
-  before-end = hit-below (test (start l.before.before)) l.loop.search.place.0 end hit least
+  before-end = hit_below (test (start l.before.before)) l.loop.search.place.0 end hit least
 
 returns : tie.Need-returns invariant-loop decreases-loop
 returns c =
@@ -97,14 +97,14 @@ returns c =
     let end = l.before.before.text-length.result + 1 in
     let n : end ≡ suc (length (text st)) = omega (arith, size l.before.before) in
     l.loop.invariant.2
-    ∙ ap length (sym (hits-over (test st) l.loop.search.place.0 end (sym c.before.before.next-hit.ensures.hit-is ∙ c.enum-told2.given.1) 0 (omega arith) l.loop.invariant.0))
-    ∙ ap (λ (k : ℕ). length (hitsBetween (test st) 0 k)) n
+    ∙ ap length (sym (hits_over (test st) l.loop.search.place.0 end (sym c.before.before.next-hit.ensures.hit_is ∙ c.enum-told2.given.1) 0 (omega arith) l.loop.invariant.0))
+    ∙ ap (λ (k : ℕ). length (hits_between (test st) 0 k)) n
 
 add-count : tie.Need-overflow-add-count invariant-loop decreases-loop
 add-count c =
     let l = c.before.before.before in
     let st = start l.before.before in
-    omega (arith, l.loop.invariant.0, l.loop.invariant.2, length-filter-range (test st) 0 (l.loop.search.place.0 - 0), size l.before.before, text-most st.pre.0.searchable.ready.checked)
+    omega (arith, l.loop.invariant.0, l.loop.invariant.2, length_filter_range (test st) 0 (l.loop.search.place.0 - 0), size l.before.before, text_most st.pre.0.searchable.ready.checked)
 
 loop-less : tie.Need-loop-smaller invariant-loop decreases-loop
 loop-less c = omega (arith, onward c.before, after c.before, before-end c.before)
@@ -117,7 +117,7 @@ loop-again c =
     let p = l.loop.search.place.0 in (
       omega (arith, onward c.before, before-end c.before),
       c.before.before.before.next-hit.ensures.search_is,
-      rw (onward c.before, hits_more P p (end c.before) q (least c.before) 0 (omega arith)) (omega (arith, l.loop.invariant.2, length-append (hitsBetween P 0 p) (q.0 ∷ []))),
+      rw (onward c.before, hits_more P p (end c.before) q (least c.before) 0 (omega arith)) (omega (arith, l.loop.invariant.2, length-append (hits_between P 0 p) (q.0 ∷ []))),
     )
 
 pub count-hits-spec : {M : Type 1} → statement M

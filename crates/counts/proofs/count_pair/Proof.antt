@@ -3,10 +3,10 @@ use mir.Facts.{to_z-of_z}
 use mathlib.Core.Path.{refl, ap, ◌∙◌}
 use native.Mathlib.Omega.{arith}
 use borrow.Author.Rules.{rules}
-use Rattle.base.proofs.Fronts.{front-whole}
-use Rattle.index.specs.Arrays.{arrays, textIn}
-use Rattle.documents.specs.Documents.{neighboursIn}
-use Rattle.counts.proofs.Hits.{pair-hits}
+use Rattle.base.proofs.Fronts.{front_whole}
+use Rattle.index.specs.Arrays.{arrays, text_in}
+use Rattle.documents.specs.Documents.{neighbours_in}
+use Rattle.counts.proofs.Hits.{pair_hits}
 use Rattle.counts.proofs.count_pair.Statement.{statement}
 use Rattle.counts.proofs.count_pair.Tie as tie
 
@@ -30,7 +30,7 @@ count-hits-requires c κs =
     let st = c.before.before.before.before.before.before.before.before.before.before.before.before in (
       record {
         searchable = record { ready = st.requires.0; some = omega arith; most = omega arith; below = search rules };
-        firsts-are = c.before.before.before.first-bytes.ensures ∙ front-whole _ _ refl;
+        firsts_are = c.before.before.before.first-bytes.ensures ∙ front_whole _ _ refl;
       },
       refl,
       st.requires.3,
@@ -39,8 +39,8 @@ count-hits-requires c κs =
 returns : tie.Need-returns
 returns c =
     let st = c.before.before.before.before.before.before.before.before.before.before.before.before.before in
-    let t = textIn st.args.s (arrays st.args.lengths.now st.args.bytes.now st.args.superblocks.now st.args.blocks.now) in
-    c.count-hits.ensures ∙ pair-hits st.args.documents.now t st.args.w st.args.v _ ∙ ap (neighboursIn st.args.documents.now t st.args.w st.args.v) (to_z-of_z st.ranges.offset)
+    let t = text_in st.args.s (arrays st.args.lengths.now st.args.bytes.now st.args.superblocks.now st.args.blocks.now) in
+    c.count-hits.ensures ∙ pair_hits st.args.documents.now t st.args.w st.args.v _ ∙ ap (neighbours_in st.args.documents.now t st.args.w st.args.v) (to_z-of_z st.ranges.offset)
 
 pub count-pair-spec : {M : Type 1} → statement M
 count-pair-spec =

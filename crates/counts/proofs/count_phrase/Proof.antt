@@ -4,12 +4,12 @@ use mathlib.Core.Path.{sym, ap, ◌∙◌}
 use native.Mathlib.Omega.{arith}
 use borrow.Author.Rules.{rules}
 use lib.ListN.{length}
-use Rattle.base.proofs.Lists.{all-at, below-weaken}
-use Rattle.dense.specs.Code.{maxVocabulary}
-use Rattle.index.specs.Arrays.{arrays, textIn}
-use Rattle.matching.proofs.FirstBytes.{first-bytes-length, first-bytes-part, searching}
-use Rattle.counts.proofs.OneWord.{only-word}
-use Rattle.counts.proofs.Hits.{phrase-hits}
+use Rattle.base.proofs.Lists.{all_at, below_weaken}
+use Rattle.dense.specs.Code.{max_vocabulary}
+use Rattle.index.specs.Arrays.{arrays, text_in}
+use Rattle.matching.proofs.FirstBytes.{first_bytes_length, first_bytes_part, searching}
+use Rattle.counts.proofs.OneWord.{only_word}
+use Rattle.counts.proofs.Hits.{phrase_hits}
 use Rattle.counts.proofs.count_phrase.Statement.{statement}
 use Rattle.counts.proofs.count_phrase.Tie as tie
 
@@ -22,13 +22,13 @@ cast-only c = omega (arith, c.shared-slice-known8.given 0)
 frequency-requires : tie.Need-frequency-requires
 frequency-requires c κs =
     let st = c.before.before.before.before.before.before.before.before.before in
-    (st.requires.0.ready, all-at (λ (x : ℕ). x < st.args.shape.vocabulary) st.args.words.now 0 0 st.requires.0.below st.requires.0.some)
+    (st.requires.0.ready, all_at (λ (x : ℕ). x < st.args.shape.vocabulary) st.args.words.now 0 0 st.requires.0.below st.requires.0.some)
 
 returns : tie.Need-returns
 returns c =
     let st = c.before.before.before.before.before.before.before.before.before.before in
-    let t = textIn st.args.s (arrays st.args.lengths.now st.args.bytes.now st.args.superblocks.now st.args.blocks.now) in
-    c.frequency.ensures ∙ only-word st.args.documents.now t st.args.words.now c.before.before.if1.true
+    let t = text_in st.args.s (arrays st.args.lengths.now st.args.bytes.now st.args.superblocks.now st.args.blocks.now) in
+    c.frequency.ensures ∙ only_word st.args.documents.now t st.args.words.now c.before.before.if1.true
 
 slice-aggregate-first-bytes : tie.Need-slice-aggregate-first-bytes
 slice-aggregate-first-bytes c = search rules
@@ -37,7 +37,7 @@ first-bytes-requires : tie.Need-first-bytes-requires
 first-bytes-requires c κs =
     let st = c.before.before.before.before.before.before.before.before.before in
     let p = st.requires.0 in
-    (p.ready.checked.closing, below-weaken st.args.shape.vocabulary (maxVocabulary st.args.s) st.args.words.now p.ready.checked.limits.mostWords p.below, omega (arith, p.most))
+    (p.ready.checked.closing, below_weaken st.args.shape.vocabulary (max_vocabulary st.args.s) st.args.words.now p.ready.checked.limits.most_words p.below, omega (arith, p.most))
 
 array-share-prefix-table : tie.Need-array-share-prefix-table
 array-share-prefix-table c = search rules
@@ -45,7 +45,7 @@ array-share-prefix-table c = search rules
 slice-aggregate-count-hits : tie.Need-slice-aggregate-count-hits
 slice-aggregate-count-hits c =
     let st = c.before.before.before.before.before.before.before.before.before.before.before.before in
-    sym (ap length (first-bytes-part st.args.s st.args.words.now _ _ c.before.before.first-bytes.ensures) ∙ first-bytes-length st.args.s st.args.words.now)
+    sym (ap length (first_bytes_part st.args.s st.args.words.now _ _ c.before.before.first-bytes.ensures) ∙ first_bytes_length st.args.s st.args.words.now)
 
 count-hits-requires : tie.Need-count-hits-requires
 count-hits-requires c κs =
@@ -55,8 +55,8 @@ count-hits-requires c κs =
 returns-2 : tie.Need-returns-2
 returns-2 c =
     let st = c.before.before.before.before.before.before.before.before.before.before.before.before.before in
-    let t = textIn st.args.s (arrays st.args.lengths.now st.args.bytes.now st.args.superblocks.now st.args.blocks.now) in
-    c.count-hits.ensures ∙ phrase-hits st.args.documents.now t st.args.words.now
+    let t = text_in st.args.s (arrays st.args.lengths.now st.args.bytes.now st.args.superblocks.now st.args.blocks.now) in
+    c.count-hits.ensures ∙ phrase_hits st.args.documents.now t st.args.words.now
 
 pub count-phrase-spec : {M : Type 1} → statement M
 count-phrase-spec =

@@ -10,7 +10,7 @@ use borrow.Author.Rules.{rules}
 use lib.ListN.{take, length}
 use lib.Seq.{take_all}
 use Rattle.dense.specs.Streams.{closings}
-use Rattle.dense.proofs.Streams.{closings-more}
+use Rattle.dense.proofs.Streams.{closings_more}
 use Rattle.dense.proofs.closings_in.Statement.{statement}
 use Rattle.dense.proofs.closings_in.Tie as tie
 
@@ -46,7 +46,7 @@ loop-again : tie.Need-loop-preserved invariant-loop decreases-loop
 loop-again c = let start = c.before.before.before.before in
     let loop = c.before.before.before.loop in
     let h : loop.at < length start.args.part.now = c.before.before.loop-test.true in
-    let more = rw (← add-one loop.at) at (closings-more start.args.s start.args.part.now loop.at h) in
+    let more = rw (← add-one loop.at) at (closings_more start.args.s start.args.part.now loop.at h) in
     ⊎_elim
     (λ w. (omega arith, omega (arith, w.1), w.1 ∙ sym (more ∙ ap (λ (t : Bool). closings start.args.s (take loop.at start.args.part.now) + cond t 1 0) (le-leb _ _ w.0.taken) ∙ omega (arith, loop.invariant.2))))
     (λ w. (omega arith, omega (arith, w.1), w.1 ∙ sym (more ∙ ap (λ (t : Bool). closings start.args.s (take loop.at start.args.part.now) + cond t 1 0) (lt-leb _ _ w.0.left) ∙ omega (arith, loop.invariant.2))))

@@ -6,7 +6,7 @@ use borrow.Author.Rules.{rules}
 use lib.ListN.{length, take, drop, length-take}
 use lib.Seq.{take_all}
 use Rattle.dense.specs.Streams.{closings}
-use Rattle.dense.proofs.Streams.{closings-part, closings-most}
+use Rattle.dense.proofs.Streams.{closings_part, closings_most}
 use Rattle.dense.proofs.count_closings.Statement.{statement}
 use Rattle.dense.proofs.count_closings.Tie as tie
 
@@ -23,7 +23,7 @@ counted c =
     let loop = c.before.before.before.before.loop in
     let stop = c.before.before.least.result in
     let e : loop.at + (stop - loop.at) ≡ stop = omega (arith, c.before.before.least.ensures) in
-    rw (loop.invariant.1, c.closings-in.ensures, ← closings-part a.s loop.at (stop - loop.at) a.stream.now, e)
+    rw (loop.invariant.1, c.closings-in.ensures, ← closings_part a.s loop.at (stop - loop.at) a.stream.now, e)
 
 loop-holds : tie.Need-loop-init invariant-loop decreases-loop
 unfolding closings
@@ -55,7 +55,7 @@ cast-found c = search rules
 add-found : tie.Need-overflow-add-found invariant-loop decreases-loop
 add-found c = let a = c.before.before.before.before.before.before.args in
     let passed = take c.before.before.least.result a.stream.now in
-    omega (arith, counted c, closings-most a.s passed, length-take c.before.before.least.result a.stream.now)
+    omega (arith, counted c, closings_most a.s passed, length-take c.before.before.least.result a.stream.now)
 
 loop-less : tie.Need-loop-smaller invariant-loop decreases-loop
 loop-less c = search rules

@@ -7,8 +7,8 @@ use borrow.Author.Tests.{le-leb, lt-leb}
 use borrow.Author.Rules.{rules}
 use lib.ListN.{length, drop, get_or}
 use Rattle.dense.specs.Code.{continuing}
-use Rattle.dense.proofs.Numbers.{node-products}
-use Rattle.dense.proofs.Reading.{open-most, Passed, passed_none, passed-all, place-room, passed-closing, passed-continuing}
+use Rattle.dense.proofs.Numbers.{node_products}
+use Rattle.dense.proofs.Reading.{open_most, Passed, passed_none, passed_all, place_room, passed_closing, passed_continuing}
 use Rattle.dense.proofs.read_codewords.Statement.{statement}
 use Rattle.dense.proofs.read_codewords.Tie as tie
 
@@ -23,14 +23,14 @@ products : (c : tie.After-shared-slice-known invariant-loop decreases-loop) → 
 products c =
     let start = c.before.before.before in
     let loop = c.before.before.loop in
-    node-products start.args.s loop.node start.requires.0.least start.requires.0.most (open-most start.args.s loop.node (drop loop.at start.args.stream.now) loop.invariant.1.inner)
+    node_products start.args.s loop.node start.requires.0.least start.requires.0.most (open_most start.args.s loop.node (drop loop.at start.args.stream.now) loop.invariant.1.inner)
 
 -- there is room for the next word
 room : (c : tie.After-shared-slice-known invariant-loop decreases-loop) → c.before.before.loop.place < length c.before.before.before.args.text.now
 room c =
     let start = c.before.before.before in
     let loop = c.before.before.loop in
-    place-room start.args.s start.args.stream.now start.args.text.now start.requires.1 start.requires.2 loop.at loop.node loop.place loop.text loop.invariant.1 c.before.loop-test.true
+    place_room start.args.s start.args.stream.now start.args.text.now start.requires.1 start.requires.2 loop.at loop.node loop.place loop.text loop.invariant.1 c.before.loop-test.true
 
 sub-least : tie.Need-overflow-sub-least invariant-loop decreases-loop
 sub-least c = search rules
@@ -91,13 +91,13 @@ loop-again c = let start = c.before.before.before.before in
     (λ w. (
       omega arith,
       rw (w.1, w.2)
-          (passed-closing start.args.s start.args.stream.now start.args.text.now start.requires.1 start.requires.2 loop.at loop.node loop.place loop.text loop.invariant.1 h
+          (passed_closing start.args.s start.args.stream.now start.args.text.now start.requires.1 start.requires.2 loop.at loop.node loop.place loop.text loop.invariant.1 h
           (le-leb _ _ w.0.taken) stored (omega (arith, known, w.0.taken, start.requires.0.most))),
     ))
     (λ w. (
       omega arith,
       rw w.2
-          (passed-continuing start.args.s start.args.stream.now start.args.text.now start.requires.1 start.requires.2 loop.at loop.node loop.place loop.text loop.invariant.1 h
+          (passed_continuing start.args.s start.args.stream.now start.args.text.now start.requires.1 start.requires.2 loop.at loop.node loop.place loop.text loop.invariant.1 h
           (lt-leb _ _ w.0.left) stored c.if1.node (omega (arith, w.1, w.0.left, start.requires.0.least))),
     ))
     c.if1.branch
@@ -108,7 +108,7 @@ same_length c = c.before.loop.invariant.1.long
 returns : tie.Need-returns invariant-loop decreases-loop
 returns c = let start = c.before.before in
     let loop = c.before.loop in
-    passed-all start.args.s start.args.stream.now start.args.text.now start.requires.1 start.requires.2 loop.at loop.node loop.place loop.text loop.invariant.1 c.loop-test.false
+    passed_all start.args.s start.args.stream.now start.args.text.now start.requires.1 start.requires.2 loop.at loop.node loop.place loop.text loop.invariant.1 c.loop-test.false
 
 pub read-codewords-spec : {M : Type 1} → statement M
 read-codewords-spec =

@@ -2,7 +2,7 @@
 use mathlib.Core.Path.{refl, sym, ap, ◌∙◌}
 use borrow.Author.Rules.{rules}
 use Rattle.base.specs.Answers.{accepted}
-use Rattle.dense.proofs.Calls.{Readable, read-words, read_short, read-broken, read-refused, read-accepted}
+use Rattle.dense.proofs.Calls.{Readable, read_words, read_short, read_broken, read_refused_lem, read_accepted}
 use Rattle.dense.proofs.read_stream_of.Statement.{statement}
 use Rattle.dense.proofs.read_stream_of.Tie as tie
 
@@ -21,7 +21,7 @@ refused-requires c κs = search rules
 returns : tie.Need-returns
 returns c = let a = c.before.before.before.before.before.args in
     let count = c.before.before.count-closings.ensures in
-    read-refused a.s a.stream.now a.text.now 2 refl (read-words a.s a.stream.now a.text.now (rw (← count) c.before.if1.true)) c.refused.result c.refused.ensures
+    read_refused_lem a.s a.stream.now a.text.now 2 refl (read_words a.s a.stream.now a.text.now (rw (← count) c.before.if1.true)) c.refused.result c.refused.ensures
 
 refused-requires-2 : tie.Need-refused-requires-2
 refused-requires-2 c κs = search rules
@@ -29,7 +29,7 @@ refused-requires-2 c κs = search rules
 returns-2 : tie.Need-returns-2
 returns-2 c = let a = c.before.before.before.before.before.before.args in
     let count = c.before.before.before.count-closings.ensures in
-    read-refused a.s a.stream.now a.text.now 5 refl
+    read_refused_lem a.s a.stream.now a.text.now 5 refl
     (read_short a.s a.stream.now a.text.now (rw (← count) c.before.before.if1.false) (rw (← count) c.before.if2.true))
     c.refused2.result c.refused2.ensures
 
@@ -42,8 +42,8 @@ refused-requires-3 c κs = search rules
 returns-3 : tie.Need-returns-3
 returns-3 c = let a = c.before.before.before.before.before.before.before.before.args in
     let count = c.before.before.before.before.before.count-closings.ensures in
-    read-refused a.s a.stream.now a.text.now 15 refl
-    (read-broken a.s a.stream.now a.text.now (rw (← count) c.before.before.before.before.if1.false) (rw (← count) c.before.before.before.if2.false) (sym c.before.before.is-broken.ensures ∙ c.before.if3.true))
+    read_refused_lem a.s a.stream.now a.text.now 15 refl
+    (read_broken a.s a.stream.now a.text.now (rw (← count) c.before.before.before.before.if1.false) (rw (← count) c.before.before.before.if2.false) (sym c.before.before.is-broken.ensures ∙ c.before.if3.true))
     c.refused3.result c.refused3.ensures
 
 read-codewords-requires : tie.Need-read-codewords-requires
@@ -58,7 +58,7 @@ same_length c = search rules
 
 returns-4 : tie.Need-returns-4
 returns-4 c = let a = c.before.before.before.before.before.before.before.before.before.before.before.before.args in
-    read-accepted a.s a.stream.now a.text.now (readable c.before.before.before.before.before) c.accepted.result c.before.before.before.read-codewords.new.1.1.0
+    read_accepted a.s a.stream.now a.text.now (readable c.before.before.before.before.before) c.accepted.result c.before.before.before.read-codewords.new.1.1.0
     (c.accepted.ensures ∙ ap accepted c.before.before.before.before.before.before.before.before.before.count-closings.ensures) c.before.before.before.read-codewords.ensures
 
 pub read-stream-of-spec : {M : Type 1} → statement M

@@ -6,9 +6,9 @@ use native.Mathlib.Omega.{arith}
 use borrow.Author.Rules.{rules}
 use lib.ListN.{take, length, get_or}
 use lib.Seq.{take_all}
-use Rattle.dense.proofs.Streams.{stream-none, stream-length-more, stream-take-most}
+use Rattle.dense.proofs.Streams.{stream_none, stream_length_more, stream_take_most}
 use Rattle.dense.specs.Streams.{stream}
-use Rattle.dense.proofs.Codewords.{code-length-most}
+use Rattle.dense.proofs.Codewords.{code_length_most}
 use Rattle.dense.proofs.stream_length.Statement.{statement}
 use Rattle.dense.proofs.stream_length.Tie as tie
 
@@ -19,7 +19,7 @@ abbrev decreases-loop : tie.decreases-loop
 decreases-loop s text bytes₀ place₀ bytes place = length text - place
 
 loop-holds : tie.Need-loop-init invariant-loop decreases-loop
-loop-holds c = (omega arith, sym (ap length (stream-none c.before.args.s)))
+loop-holds c = (omega arith, sym (ap length (stream_none c.before.args.s)))
 
 mul-code-length : tie.Need-overflow-mul-code-length invariant-loop decreases-loop
 mul-code-length c = search rules
@@ -35,7 +35,7 @@ code-length-requires c κs = search rules
 
 add-bytes : tie.Need-overflow-add-bytes invariant-loop decreases-loop
 add-bytes c = let start = c.before.before.before.before.before in
-    omega (arith, stream-take-most start.args.s start.args.text.now c.before.before.before.loop.place, c.code-length.ensures, code-length-most start.args.s (get_or start.args.text.now c.before.before.before.loop.place 0), start.requires.1)
+    omega (arith, stream_take_most start.args.s start.args.text.now c.before.before.before.loop.place, c.code-length.ensures, code_length_most start.args.s (get_or start.args.text.now c.before.before.before.loop.place 0), start.requires.1)
 
 add-place : tie.Need-overflow-add-place invariant-loop decreases-loop
 add-place c = search rules
@@ -45,7 +45,7 @@ loop-less c = search rules
 
 loop-again : tie.Need-loop-preserved invariant-loop decreases-loop
 loop-again c = let start = c.before.before.before.before.before in
-    (omega arith, omega (arith, c.code-length.ensures, stream-length-more start.args.s start.args.text.now c.before.before.before.loop.place c.before.before.loop-test.true))
+    (omega arith, omega (arith, c.code-length.ensures, stream_length_more start.args.s start.args.text.now c.before.before.before.loop.place c.before.before.loop-test.true))
 
 returns : tie.Need-returns invariant-loop decreases-loop
 returns c = let start = c.before.before.before in

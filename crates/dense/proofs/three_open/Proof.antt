@@ -7,13 +7,13 @@ use mathlib.Core.Logic.{⊎_elim}
 use native.Mathlib.Omega.{arith}
 use borrow.Author.Rules.{rules}
 use lib.ListN.{length, drop, get_or}
-use Rattle.dense.specs.Words.{threeOpen}
-use Rattle.dense.proofs.Reading.{or-true, or-false, three-here, three-later, three-end}
+use Rattle.dense.specs.Words.{three_open}
+use Rattle.dense.proofs.Reading.{or_true, or_false, three_here, three_later, three_end}
 use Rattle.dense.proofs.three_open.Statement.{statement}
 use Rattle.dense.proofs.three_open.Tie as tie
 
 abbrev invariant-loop : tie.invariant-loop
-invariant-loop s stream least found₀ at₀ found at = (at ≤ length stream) × (threeOpen s stream ≡ cond found true (threeOpen s (drop at stream)))
+invariant-loop s stream least found₀ at₀ found at = (at ≤ length stream) × (three_open s stream ≡ cond found true (three_open s (drop at stream)))
 
 abbrev decreases-loop : tie.decreases-loop
 decreases-loop s stream least found₀ at₀ found at = length stream - at
@@ -65,12 +65,12 @@ loop-again c = let start = c.before.before.before.before.before.before.before.be
     let e : c.before.greater2.result ≡ max (get_or bytes loop.at 0) (max (get_or bytes (loop.at + 1) 0) (get_or bytes (loop.at + 2) 0)) =
     c.before.greater2.ensures ∙ ap (max (get_or bytes loop.at 0)) c.before.before.greater.ensures in
     ⊎_elim
-    (λ w. (omega arith, rw w.1 (loop.invariant.1 ∙ ap (cond loop.found true) (three-here start.args.s bytes loop.at h (omega (arith, e, w.0.taken))) ∙ or-true loop.found)))
-    (λ w. (omega arith, rw w.1 (loop.invariant.1 ∙ ap (cond loop.found true) (three-later start.args.s bytes loop.at h (omega (arith, e, w.0.left))))))
+    (λ w. (omega arith, rw w.1 (loop.invariant.1 ∙ ap (cond loop.found true) (three_here start.args.s bytes loop.at h (omega (arith, e, w.0.taken))) ∙ or_true loop.found)))
+    (λ w. (omega arith, rw w.1 (loop.invariant.1 ∙ ap (cond loop.found true) (three_later start.args.s bytes loop.at h (omega (arith, e, w.0.left))))))
     c.if1.branch
 
 returns : tie.Need-returns invariant-loop decreases-loop
-returns c = sym (c.before.loop.invariant.1 ∙ ap (cond c.before.loop.found true) (three-end c.before.before.before.args.s c.before.before.before.args.stream.now c.before.loop.at c.loop-test.false) ∙ or-false c.before.loop.found)
+returns c = sym (c.before.loop.invariant.1 ∙ ap (cond c.before.loop.found true) (three_end c.before.before.before.args.s c.before.before.before.args.stream.now c.before.loop.at c.loop-test.false) ∙ or_false c.before.loop.found)
 
 pub three-open-spec : {M : Type 1} → statement M
 three-open-spec =

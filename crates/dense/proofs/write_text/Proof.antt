@@ -5,11 +5,11 @@ use mathlib.Core.List.{List}
 use native.Mathlib.Omega.{arith}
 use lib.ListN.{length, take, get_or}
 use lib.Seq.{take_all}
-use Rattle.dense.proofs.Streams.{stream-prefix, stream-length-more, stream-written, stream-none, stream-room}
-use Rattle.base.proofs.Lists.{all-at}
-use Rattle.base.proofs.Fronts.{front-none, length_front}
-use Rattle.dense.proofs.Codewords.{code-length}
-use Rattle.dense.specs.Code.{code, maxVocabulary}
+use Rattle.dense.proofs.Streams.{stream_prefix, stream_length_more, stream_written_lem, stream_none, stream_room}
+use Rattle.base.proofs.Lists.{all_at}
+use Rattle.base.proofs.Fronts.{front_none, length_front}
+use Rattle.dense.proofs.Codewords.{code_length_lem}
+use Rattle.dense.specs.Code.{code, max_vocabulary}
 use Rattle.base.specs.Answers.{written, front}
 use Rattle.dense.specs.Streams.{stream as streamOf}
 use Rattle.dense.proofs.write_text.Statement.{statement}
@@ -26,11 +26,11 @@ as_long : (c : tie.At-loop invariant-loop decreases-loop) → length c.loop.stre
 as_long c =
     let start = c.before.before.before in
     let xs = streamOf start.args.s (take c.loop.place start.args.text.now) in
-    ap length c.loop.invariant.2 ∙ length_front xs start.args.stream.now (omega (arith, stream-prefix start.args.s start.args.text.now c.loop.place, start.requires.2))
+    ap length c.loop.invariant.2 ∙ length_front xs start.args.stream.now (omega (arith, stream_prefix start.args.s start.args.text.now c.loop.place, start.requires.2))
 
 loop-holds : tie.Need-loop-init invariant-loop decreases-loop
 loop-holds c = let a = c.before.before.args in
-    (omega arith, sym (ap length (stream-none a.s)), sym (ap (λ (xs : List ℕ). front xs a.stream.now) (stream-none a.s) ∙ front-none a.stream.now))
+    (omega arith, sym (ap length (stream_none a.s)), sym (ap (λ (xs : List ℕ). front xs a.stream.now) (stream_none a.s) ∙ front_none a.stream.now))
 
 mul-write-codeword : tie.Need-overflow-mul-write-codeword invariant-loop decreases-loop
 mul-write-codeword c = omega (arith, c.before.before.before.before.well-formed.1.0.1)
@@ -47,8 +47,8 @@ write-codeword-requires c κs = let start = c.before.before.before.before.before
     let text = start.args.text.now in
     let h : loop.place < length text = c.before.before.loop-test.true in (
       start.requires.0,
-      all-at (λ (i : ℕ). i < maxVocabulary start.args.s) text 0 loop.place start.requires.1 h,
-      omega (arith, stream-room start.args.s text loop.place h, as_long c.before.before.before, start.requires.2, loop.invariant.1),
+      all_at (λ (i : ℕ). i < max_vocabulary start.args.s) text 0 loop.place start.requires.1 h,
+      omega (arith, stream_room start.args.s text loop.place h, as_long c.before.before.before, start.requires.2, loop.invariant.1),
     )
 
 add-place : tie.Need-overflow-add-place invariant-loop decreases-loop
@@ -64,11 +64,11 @@ loop-again c = let start = c.before.before.before.before.before.before.before.be
     let h : loop.place < length text = c.before.before.before.before.before.loop-test.true in
     let call = c.before.before.write-codeword in (
       omega arith,
-      omega (arith, call.ensures.0, stream-length-more start.args.s text loop.place h, code-length start.args.s (get_or text loop.place 0), loop.invariant.1),
+      omega (arith, call.ensures.0, stream_length_more start.args.s text loop.place h, code_length_lem start.args.s (get_or text loop.place 0), loop.invariant.1),
       call.ensures.1
           ∙ ap (λ (z : List ℕ). written (code start.args.s (get_or text loop.place 0)) loop.at z) loop.invariant.2
           ∙ ap (λ (n : ℕ). written (code start.args.s (get_or text loop.place 0)) n (front (streamOf start.args.s (take loop.place text)) start.args.stream.now)) loop.invariant.1
-          ∙ stream-written start.args.s text start.args.stream.now loop.place h,
+          ∙ stream_written_lem start.args.s text start.args.stream.now loop.place h,
     )
 
 same_length : tie.Need-same-length invariant-loop decreases-loop

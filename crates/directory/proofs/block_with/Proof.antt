@@ -5,25 +5,25 @@ use native.Mathlib.Omega.{arith}
 use borrow.Author.Rules.{rules}
 use lib.ListN.{take}
 use Rattle.base.specs.Lists.{count_of}
-use Rattle.directory.proofs.Rows.{rows-most, block-most, superblock-rows}
-use Rattle.directory.proofs.Searches.{Holds, position, held_more, superblock-holds, zero-most, first-inside, first-most, both_of, block-holds}
+use Rattle.directory.proofs.Rows.{rows_most, block_most, superblock_rows_lem}
+use Rattle.directory.proofs.Searches.{Holds, position, held_more, superblock_holds, zero_most, first_inside, first_most, both_of, block_holds}
 use Rattle.directory.proofs.block_with.Statement.{statement}
 use Rattle.directory.proofs.block_with.Tie as tie
 
 -- what the superblock search finds
-in-superblock : (c : tie.After-superblock-near) → let a = c.before.before.before.before.args in Holds (a.block * a.per) a.bytes.now a.byte a.j c.superblock-near.result
-in-superblock c =
+in_superblock : (c : tie.After-superblock-near) → let a = c.before.before.before.before.args in Holds (a.block * a.per) a.bytes.now a.byte a.j c.superblock-near.result
+in_superblock c =
     let s = c.before.before.before.before in
     let a = s.args in
-    superblock-holds s.requires.0 s.requires.1 a.byte a.j s.ranges.byte.fits c.superblock-near.result c.superblock-near.ensures
+    superblock_holds s.requires.0 s.requires.1 a.byte a.j s.ranges.byte.fits c.superblock-near.result c.superblock-near.ensures
 
 -- what the block search finds
 in_block : (c : tie.After-search-blocks) → let a = c.before.before.before.before.before.before.before.args in Holds a.block a.bytes.now a.byte a.j c.search-blocks.result
 in_block c =
     let s = c.before.before.before.before.before.before.before in
     let a = s.args in
-    block-holds s.requires.0 s.requires.1 a.byte a.j s.ranges.byte.fits
-    (in-superblock c.before.before.before) c.before.least.result c.before.least.ensures c.search-blocks.result
+    block_holds s.requires.0 s.requires.1 a.byte a.j s.ranges.byte.fits
+    (in_superblock c.before.before.before) c.before.least.result c.before.least.ensures c.search-blocks.result
     (rw c.before.before.superblock-at.ensures at c.search-blocks.ensures)
 
 -- what is left of j in the block
@@ -33,15 +33,15 @@ left c =
     let a = s.args in
     let f = c.before.search-blocks.ensures in
     let t = both_of s.requires.0 s.requires.1 a.byte a.j s.ranges.byte.fits
-    (in-superblock c.before.before.before.before) c.before.search-blocks.result f.from (omega (arith, f.inside)) (in_block c.before).here in
+    (in_superblock c.before.before.before.before) c.before.search-blocks.result f.from (omega (arith, f.inside)) (in_block c.before).here in
     omega (arith, t)
 
 superblock-near-requires : tie.Need-superblock-near-requires
 superblock-near-requires c κs =
     let s = c.before.before.before in
     let a = s.args in
-    let rows = superblock-rows s.requires.0 s.requires.1 in
-    (omega (arith, rows), zero-most s.requires.0 s.requires.1 a.byte a.j s.ranges.byte.fits)
+    let rows = superblock_rows_lem s.requires.0 s.requires.1 in
+    (omega (arith, rows), zero_most s.requires.0 s.requires.1 a.byte a.j s.ranges.byte.fits)
 
 superblock-at-requires : tie.Need-superblock-at-requires
 superblock-at-requires c κs = search rules
@@ -52,12 +52,12 @@ sub-left c = search rules
 mul-first : tie.Need-overflow-mul-first
 mul-first c =
     let s = c.before.before.before.before.before in
-    omega (arith, rows-most s.requires.0 c.before.superblock-near.result (in-superblock c.before).here)
+    omega (arith, rows_most s.requires.0 c.before.superblock-near.result (in_superblock c.before).here)
 
 add-least : tie.Need-overflow-add-least
 add-least c =
     let s = c.before.before.before.before.before in
-    omega (arith, rows-most s.requires.0 c.before.superblock-near.result (in-superblock c.before).here)
+    omega (arith, rows_most s.requires.0 c.before.superblock-near.result (in_superblock c.before).here)
 
 least-requires : tie.Need-least-requires
 least-requires c κs = search rules
@@ -66,10 +66,10 @@ search-blocks-requires : tie.Need-search-blocks-requires
 search-blocks-requires c κs =
     let s = c.before.before.before.before.before.before in
     let a = s.args in
-    let h = in-superblock c.before.before in (
-      first-inside s.requires.0 s.requires.1 a.byte a.j s.ranges.byte.fits h c.least.result c.least.ensures,
+    let h = in_superblock c.before.before in (
+      first_inside s.requires.0 s.requires.1 a.byte a.j s.ranges.byte.fits h c.least.result c.least.ensures,
       omega arith,
-      rw c.before.superblock-at.ensures (first-most s.requires.0 s.requires.1 a.byte a.j s.ranges.byte.fits h),
+      rw c.before.superblock-at.ensures (first_most s.requires.0 s.requires.1 a.byte a.j s.ranges.byte.fits h),
     )
 
 block-at-requires : tie.Need-block-at-requires
@@ -84,7 +84,7 @@ mul-start c = omega (arith, (in_block c.before).here)
 add-least-2 : tie.Need-overflow-add-least-2
 add-least-2 c =
     let s = c.before.before.before.before.before.before.before.before in
-    omega (arith, (in_block c.before).here, s.requires.0.bytes_most, block-most s.requires.0)
+    omega (arith, (in_block c.before).here, s.requires.0.bytes_most, block_most s.requires.0)
 
 least-requires-2 : tie.Need-least-requires-2
 least-requires-2 c κs = search rules

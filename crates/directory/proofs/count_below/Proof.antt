@@ -6,8 +6,8 @@ use native.Mathlib.Omega.{arith}
 use borrow.Author.Rules.{rules}
 use lib.ListN.{length, take}
 use Rattle.base.specs.Lists.{count_of}
-use Rattle.base.proofs.Counts.{count-take-most, count-part}
-use Rattle.directory.proofs.Rows.{start-before, superblock-inside, block_inside, both-are}
+use Rattle.base.proofs.Counts.{count_take_most, count_part}
+use Rattle.directory.proofs.Rows.{start_before, superblock_inside, block_inside, both_are}
 use Rattle.directory.proofs.count_below.Statement.{statement}
 use Rattle.directory.proofs.count_below.Tie as tie
 
@@ -25,7 +25,7 @@ both c =
     let s = c.before.before.before.before.before in
     let a = s.args in
     rw (c.before.superblock-at.ensures, c.block_at.ensures)
-    (both-are s.requires.0 s.requires.1 (a.i / a.block) a.byte (inside s) s.ranges.byte.fits)
+    (both_are s.requires.0 s.requires.1 (a.i / a.block) a.byte (inside s) s.ranges.byte.fits)
 
 -- and with those of the block, the first i bytes
 all : (c : tie.After-count-in) → let a = c.before.before.before.before.before.before.before.args in c.before.before.before.superblock-at.result + c.before.before.block_at.result + c.count-in.result ≡ count_of a.byte (take a.i a.bytes.now)
@@ -33,7 +33,7 @@ all c =
     let a = c.before.before.before.before.before.before.before.args in
     let at = a.i / a.block * a.block in
     let e : at + (a.i - at) ≡ a.i = omega (arith, start c.before.before.before.before.before.before.before) in
-    rw (both c.before.before, c.count-in.ensures, ← count-part a.byte at (a.i - at) a.bytes.now, e)
+    rw (both c.before.before, c.count-in.ensures, ← count_part a.byte at (a.i - at) a.bytes.now, e)
 
 div_row : tie.Need-nonzero-div-row
 div_row c = search rules
@@ -48,8 +48,8 @@ superblock-at-requires : tie.Need-superblock-at-requires
 superblock-at-requires c κs =
     let s = c.before.before.before in
     let a = s.args in
-    superblock-inside s.requires.0 s.requires.1 (a.i / a.block / a.per) a.byte
-    (le_trans (start-before a.block a.per (a.i / a.block)) (inside s)) s.ranges.byte.fits
+    superblock_inside s.requires.0 s.requires.1 (a.i / a.block / a.per) a.byte
+    (le_trans (start_before a.block a.per (a.i / a.block)) (inside s)) s.ranges.byte.fits
 
 block-at-requires : tie.Need-block-at-requires
 block-at-requires c κs =
@@ -60,7 +60,7 @@ block-at-requires c κs =
 add-result : tie.Need-overflow-add-result
 add-result c =
     let s = c.before.before.before.before.before in
-    omega (arith, both c, count-take-most s.args.byte (s.args.i / s.args.block * s.args.block) s.args.bytes.now, s.requires.0.bytes_most)
+    omega (arith, both c, count_take_most s.args.byte (s.args.i / s.args.block * s.args.block) s.args.bytes.now, s.requires.0.bytes_most)
 
 sub-count-in : tie.Need-overflow-sub-count-in
 sub-count-in c = start c.before.before.before.before.before
@@ -77,7 +77,7 @@ count-in-requires c κs = search rules
 add-result-2 : tie.Need-overflow-add-result-2
 add-result-2 c =
     let s = c.before.before.before.before.before.before.before in
-    omega (arith, all c, count-take-most s.args.byte s.args.i s.args.bytes.now, s.requires.0.bytes_most)
+    omega (arith, all c, count_take_most s.args.byte s.args.i s.args.bytes.now, s.requires.0.bytes_most)
 
 returns : tie.Need-returns
 returns c = all c

@@ -6,7 +6,7 @@ use borrow.Author.Rules.{rules}
 use lib.ListN.{length, take, drop, length-take}
 use lib.Seq.{take_all}
 use Rattle.base.specs.Lists.{count_of}
-use Rattle.base.proofs.Counts.{count-part, count-take-most}
+use Rattle.base.proofs.Counts.{count_part, count_take_most}
 use Rattle.directory.proofs.count_in.Statement.{statement}
 use Rattle.directory.proofs.count_in.Tie as tie
 
@@ -23,7 +23,7 @@ counted c =
     let l = c.before.before.before.before.loop in
     let stop = c.before.before.least.result in
     let e : l.i + (stop - l.i) ≡ stop = omega (arith, c.before.before.least.ensures) in
-    rw (l.invariant.1, c.count-few.ensures, ← count-part a.byte l.i (stop - l.i) a.part.now, e)
+    rw (l.invariant.1, c.count-few.ensures, ← count_part a.byte l.i (stop - l.i) a.part.now, e)
 
 loop-holds : tie.Need-loop-init invariant-loop decreases-loop
 loop-holds c = (omega arith, refl)
@@ -54,7 +54,7 @@ cast-found c = search rules
 add-found : tie.Need-overflow-add-found invariant-loop decreases-loop
 add-found c =
     let a = c.before.before.before.before.before.before.args in
-    omega (arith, counted c, count-take-most a.byte c.before.before.least.result a.part.now)
+    omega (arith, counted c, count_take_most a.byte c.before.before.least.result a.part.now)
 
 loop-less : tie.Need-loop-smaller invariant-loop decreases-loop
 loop-less c = search rules

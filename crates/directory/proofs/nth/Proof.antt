@@ -6,11 +6,11 @@ use native.Mathlib.Omega.{arith}
 use borrow.Author.Rules.{rules}
 use lib.ListN.{length, length-take, length-drop, drop}
 use Rattle.base.specs.Lists.{nth}
-use Rattle.base.proofs.Counts.{nth-most}
+use Rattle.base.proofs.Counts.{nth_most}
 use Rattle.block_scan.specs.declared.Scanned.{Scanned}
-use Rattle.block_scan.specs.BlockScans.{scanOf, position_of}
-use Rattle.block_scan.proofs.BlockScans.{scan-position}
-use Rattle.directory.specs.Blocks.{heldPart}
+use Rattle.block_scan.specs.BlockScans.{scan_of, position_of}
+use Rattle.block_scan.proofs.BlockScans.{scan_position}
+use Rattle.directory.specs.Blocks.{held_part}
 use Rattle.directory.proofs.nth.Statement.{statement}
 use Rattle.directory.proofs.nth.Tie as tie
 
@@ -21,11 +21,11 @@ found c =
     let held = c.before.before.before.block_with.result in
     let w = c.before.before.before.block_with.ensures in
     let n : ℕ = held.stop - held.start in
-    let part : List ℕ = heldPart a.bytes.now held in
+    let part : List ℕ = held_part a.bytes.now held in
     let size : n ≡ length part = omega (arith, length-take n (drop held.start a.bytes.now), length-drop held.start a.bytes.now, w.inside) in
     let e : c.position-of.result ≡ nth a.byte held.rest part =
     c.position-of.ensures ∙ ap (λ (r : Scanned). position_of r.stands n) c.before.scan.ensures
-    ∙ ap (λ (n : ℕ). position_of (scanOf a.byte held.rest part).stands n) size ∙ scan-position a.byte held.rest part in
+    ∙ ap (λ (n : ℕ). position_of (scan_of a.byte held.rest part).stands n) size ∙ scan_position a.byte held.rest part in
     rw e w.position
 
 block-with-requires : tie.Need-block-with-requires
@@ -52,7 +52,7 @@ position-of-requires c κs = search rules
 add_at : tie.Need-overflow-add-at
 add_at c =
     let a = c.before.before.before.before.before.before.before.args in
-    omega (arith, found c, nth-most a.byte a.j a.bytes.now)
+    omega (arith, found c, nth_most a.byte a.j a.bytes.now)
 
 returns : tie.Need-returns
 returns c = found c

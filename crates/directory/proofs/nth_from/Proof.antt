@@ -5,8 +5,8 @@ use native.Mathlib.Omega.{arith}
 use borrow.Author.Rules.{rules}
 use lib.ListN.{length, take, drop, length-take, length-drop}
 use Rattle.base.specs.Lists.{nth}
-use Rattle.base.proofs.Counts.{nth-most}
-use Rattle.directory.proofs.Pieces.{nth-next}
+use Rattle.base.proofs.Counts.{nth_most}
+use Rattle.directory.proofs.Pieces.{nth_next}
 use Rattle.directory.proofs.nth_from.Statement.{statement}
 use Rattle.directory.proofs.nth_from.Tie as tie
 
@@ -19,7 +19,7 @@ found c =
     let e = c.before.next_of.ensures in
     let size : length (take n (drop a.from a.bytes.now)) ≡ n =
     omega (arith, length-take n (drop a.from a.bytes.now), length-drop a.from a.bytes.now, c.before.before.before.least.ensures) in
-    rw e (sym (nth-next a.byte a.j a.from n a.bytes.now s.requires.2 s.requires.3 (omega (arith, e, c.if1.true))))
+    rw e (sym (nth_next a.byte a.j a.from n a.bytes.now s.requires.2 s.requires.3 (omega (arith, e, c.if1.true))))
 
 add-least : tie.Need-overflow-add-least
 add-least c =
@@ -47,7 +47,7 @@ sub-if1 c = search rules
 add-t18 : tie.Need-overflow-add-t18
 add-t18 c =
     let a = c.before.before.before.before.before.before.before.args in
-    omega (arith, found c, nth-most a.byte a.j a.bytes.now)
+    omega (arith, found c, nth_most a.byte a.j a.bytes.now)
 
 returns : tie.Need-returns
 returns c = found c

@@ -5,9 +5,9 @@ use native.Mathlib.Omega.{arith}
 use borrow.Author.Rules.{rules}
 use lib.ListN.{length, take, drop, length-take}
 use Rattle.base.specs.Lists.{count_of}
-use Rattle.base.proofs.Counts.{count-part, nth-found}
-use Rattle.block_scan.proofs.BlockScans.{not-past}
-use Rattle.directory.proofs.Pieces.{nth-before}
+use Rattle.base.proofs.Counts.{count_part, nth_found}
+use Rattle.block_scan.proofs.BlockScans.{not_past}
+use Rattle.directory.proofs.Pieces.{nth_before}
 use Rattle.directory.proofs.piece_in.Statement.{statement}
 use Rattle.directory.proofs.piece_in.Tie as tie
 
@@ -23,7 +23,7 @@ counted c =
     let a = c.before.before.before.before.before.args in
     let i : ℕ = c.before.before.before.loop.i in
     let e : i + (i + 64 - i) ≡ i + 64 = omega arith in
-    rw (c.count-few.ensures, ← count-part a.byte i (i + 64 - i) a.part.now, e)
+    rw (c.count-few.ensures, ← count_part a.byte i (i + 64 - i) a.part.now, e)
 
 loop-holds : tie.Need-loop-init invariant-loop decreases-loop
 loop-holds c = search rules
@@ -55,8 +55,8 @@ returns : tie.Need-returns invariant-loop decreases-loop
 returns c =
     let a = c.before.before.before.before.before.before.args in
     let l = c.before.before.before.before.loop in (
-      not-past a.byte a.rest l.i a.part.now l.invariant.0 (omega (arith, l.invariant.1)),
-      nth-before a.byte a.rest (l.i + 64) a.part.now (omega (arith, counted c.before, l.invariant.1)),
+      not_past a.byte a.rest l.i a.part.now l.invariant.0 (omega (arith, l.invariant.1)),
+      nth_before a.byte a.rest (l.i + 64) a.part.now (omega (arith, counted c.before, l.invariant.1)),
     )
 
 loop-less : tie.Need-loop-smaller invariant-loop decreases-loop
@@ -70,8 +70,8 @@ returns-2 c =
     let s = c.before.before.before in
     let a = s.args in
     let l = c.before.loop in (
-      not-past a.byte a.rest l.i a.part.now l.invariant.0 (omega (arith, l.invariant.1)),
-      omega (arith, (nth-found a.byte a.rest a.part.now s.requires).inside),
+      not_past a.byte a.rest l.i a.part.now l.invariant.0 (omega (arith, l.invariant.1)),
+      omega (arith, (nth_found a.byte a.rest a.part.now s.requires).inside),
     )
 
 pub piece-in-spec : {M : Type 1} → statement M

@@ -4,8 +4,8 @@ use native.Mathlib.Omega.{arith}
 use borrow.Author.Rules.{rules}
 use lib.ListN.{drop, length-take, length-drop}
 use Rattle.base.specs.Lists.{nth}
-use Rattle.base.proofs.Counts.{nth-found}
-use Rattle.directory.specs.Blocks.{heldPart}
+use Rattle.base.proofs.Counts.{nth_found}
+use Rattle.directory.specs.Blocks.{held_part}
 use Rattle.directory.proofs.piece_of.Statement.{statement}
 use Rattle.directory.proofs.piece_of.Tie as tie
 
@@ -17,7 +17,7 @@ held c =
     let h = c.before.before.block_with.result in
     let w = c.before.before.block_with.ensures in
     let n : ℕ = h.stop - h.start in
-    let f = nth-found a.byte h.rest (heldPart a.bytes.now h) (w.more s.requires.2) in (
+    let f = nth_found a.byte h.rest (held_part a.bytes.now h) (w.more s.requires.2) in (
       omega (arith, w.position, c.piece-in.ensures),
       omega (arith, w.position, c.piece-in.ensures),
       omega (arith, w.position, f.inside, length-take n (drop h.start a.bytes.now), length-drop h.start a.bytes.now, w.inside),

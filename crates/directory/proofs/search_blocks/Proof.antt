@@ -1,7 +1,7 @@
 -- `directory::search_blocks` meets its contract. The loop's invariant: row low has at most j, and row high, where it is before end, has more. Assumes nothing.
 use Prim.Native.Nat.{◌-◌}
 use borrow.Author.Rules.{rules}
-use Rattle.directory.proofs.Searches.{Left, last-of-more}
+use Rattle.directory.proofs.Searches.{Left, last_of_more}
 use Rattle.directory.proofs.search_blocks.Statement.{statement}
 use Rattle.directory.proofs.search_blocks.Tie as tie
 
@@ -44,7 +44,7 @@ walk-blocks-requires c κs = search rules
 returns : tie.Need-returns invariant-loop decreases-loop
 returns c =
     let l = c.before.before.loop.invariant in
-    last-of-more _ _ c.walk-blocks.ensures l.from l.to l.more
+    last_of_more _ _ c.walk-blocks.ensures l.from l.to l.more
 
 pub search-blocks-spec : {M : Type 1} → statement M
 search-blocks-spec =

@@ -2,7 +2,7 @@
 use Prim.Native.Nat.{◌-◌}
 use native.Mathlib.Omega.{arith}
 use borrow.Author.Rules.{rules}
-use Rattle.directory.proofs.Searches.{Left, last-left}
+use Rattle.directory.proofs.Searches.{Left, last_left}
 use Rattle.directory.proofs.search_superblocks.Statement.{statement}
 use Rattle.directory.proofs.search_superblocks.Tie as tie
 
@@ -40,7 +40,7 @@ loop-again-2 : tie.Need-loop-preserved-2 invariant-loop decreases-loop
 loop-again-2 c = search rules
 
 returns : tie.Need-returns invariant-loop decreases-loop
-returns c = last-left c.before.loop.invariant (omega arith)
+returns c = last_left c.before.loop.invariant (omega arith)
 
 pub search-superblocks-spec : {M : Type 1} → statement M
 search-superblocks-spec =

@@ -3,7 +3,7 @@ use Prim.Native.Nat.{◌/◌}
 use native.Mathlib.Omega.{arith}
 use borrow.Author.Rules.{rules}
 use lib.ListN.{length}
-use Rattle.directory.proofs.Searches.{last-of-more}
+use Rattle.directory.proofs.Searches.{last_of_more}
 use Rattle.directory.proofs.superblock_near.Statement.{statement}
 use Rattle.directory.proofs.superblock_near.Tie as tie
 
@@ -31,7 +31,7 @@ search-superblocks-requires-3 c κs = search rules
 returns-3 : tie.Need-returns-3
 returns-3 c =
     let a = c.before.before.before.before.before.before.args in
-    last-of-more 0 (length a.superblocks.now / 256) c.search-superblocks3.ensures (omega arith) c.before.row-ahead.ensures.1 c.before.row-ahead.ensures.2
+    last_of_more 0 (length a.superblocks.now / 256) c.search-superblocks3.ensures (omega arith) c.before.row-ahead.ensures.1 c.before.row-ahead.ensures.2
 
 pub superblock-near-spec : {M : Type 1} → statement M
 superblock-near-spec =

@@ -4,13 +4,13 @@ use borrow.Author.Rules.{rules}
 use borrow.Author.Tests.{not-true, not-false}
 use lib.ListN.{length}
 use Rattle.base.specs.declared.Answer.{Answer}
-use Rattle.index.specs.Arrays.{Arrays, arrays, textIn}
-use Rattle.index.specs.Entries.{checkAnswer}
+use Rattle.index.specs.Arrays.{Arrays, arrays, text_in}
+use Rattle.index.specs.Entries.{check_answer}
 use Rattle.words.specs.Ready.{Checked}
-use Rattle.words.proofs.Parts.{accepted-checked, checked-some}
-use Rattle.documents.specs.Documents.{areStarts}
-use Rattle.questions.proofs.Answered.{check-passed}
-use Rattle.questions.proofs.Checks.{check-in-index, check-in-starts, check-in-passed}
+use Rattle.words.proofs.Parts.{accepted_checked, checked_some}
+use Rattle.documents.specs.Documents.{are_starts}
+use Rattle.questions.proofs.Answered.{check_passed}
+use Rattle.questions.proofs.Checks.{check_in_index, check_in_starts, check_in_passed}
 use Rattle.document_checks.proofs.check_in_documents.Statement.{statement}
 use Rattle.document_checks.proofs.check_in_documents.Tie as tie
 
@@ -23,18 +23,18 @@ module _ (c : tie.Else1) where
   abbrev start : tie.Start
   start = c.before.before.before.before.before.before.before.before
 
-  none : (checkAnswer start.args.s start.args.shape (four start)).refusal ≡ 0
+  none : (check_answer start.args.s start.args.shape (four start)).refusal ≡ 0
   none = ap (λ (r : Answer). r.refusal) (sym c.before.before.check-of.ensures) ∙ c.if1.false
 
   checked : Checked start.args.s start.args.shape (four start)
-  checked = accepted-checked start.args.s start.pre start.args.shape (four start) none
+  checked = accepted_checked start.args.s start.pre start.args.shape (four start) none
 
 -- the rules are those of starts in their text
 rules : (c : tie.After-are-starts) → let st = start c.before.before in
-    c.are-starts.result ≡ areStarts (length (textIn st.args.s (four st))) st.args.documents.now
+    c.are-starts.result ≡ are_starts (length (text_in st.args.s (four st))) st.args.documents.now
 rules c =
     let st = start c.before.before in
-    c.are-starts.ensures ∙ ap (λ n. areStarts n st.args.documents.now) (c.before.text-length.ensures.1 _ _ _ _ _ (checked c.before.before))
+    c.are-starts.ensures ∙ ap (λ n. are_starts n st.args.documents.now) (c.before.text-length.ensures.1 _ _ _ _ _ (checked c.before.before))
 
 check-of-requires : tie.Need-check-of-requires
 check-of-requires c κs = search rules
@@ -43,10 +43,10 @@ returns : tie.Need-returns
 returns c =
     let st = c.before.before.before.before.before.before.before.before in
     c.before.before.check-of.ensures
-    ∙ sym (check-in-index st.args.s st.args.shape (four st) st.args.documents.now (λ e. c.if1.true (ap (λ (r : Answer). r.refusal) c.before.before.check-of.ensures ∙ e)))
+    ∙ sym (check_in_index st.args.s st.args.shape (four st) st.args.documents.now (λ e. c.if1.true (ap (λ (r : Answer). r.refusal) c.before.before.check-of.ensures ∙ e)))
 
 text-length-requires : tie.Need-text-length-requires
-text-length-requires c κs = checked-some (checked c)
+text-length-requires c κs = checked_some (checked c)
 
 are-starts-requires : tie.Need-are-starts-requires
 are-starts-requires c κs = search rules
@@ -58,15 +58,15 @@ returns-2 : tie.Need-returns-2
 returns-2 c =
     let at = c.before.before.before.before in
     let st = start at in
-    c.refused.ensures ∙ sym (check-in-starts st.args.s st.args.shape (four st) st.args.documents.now (none at) (sym (rules c.before.before) ∙ not-true c.before.before.are-starts.result c.before.if2.true))
+    c.refused.ensures ∙ sym (check_in_starts st.args.s st.args.shape (four st) st.args.documents.now (none at) (sym (rules c.before.before) ∙ not-true c.before.before.are-starts.result c.before.if2.true))
 
 returns-3 : tie.Need-returns-3
 returns-3 c =
     let at = c.before.before.before in
     let st = start at in
     at.before.before.check-of.ensures
-    ∙ check-passed st.args.s st.args.shape (four st) (none at)
-    ∙ sym (check-in-passed st.args.s st.args.shape (four st) st.args.documents.now (check-passed st.args.s st.args.shape (four st) (none at)) (sym (rules c.before) ∙ not-false c.before.are-starts.result c.if2.false))
+    ∙ check_passed st.args.s st.args.shape (four st) (none at)
+    ∙ sym (check_in_passed st.args.s st.args.shape (four st) st.args.documents.now (check_passed st.args.s st.args.shape (four st) (none at)) (sym (rules c.before) ∙ not-false c.before.are-starts.result c.if2.false))
 
 pub check-in-documents-spec : {M : Type 1} → statement M
 check-in-documents-spec =

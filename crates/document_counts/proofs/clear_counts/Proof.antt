@@ -6,19 +6,19 @@ use native.Mathlib.Omega.{arith}
 use borrow.Author.Rules.{rules}
 use lib.ListN.{length, take, set}
 use lib.Seq.{take_all, length-take-le}
-use Rattle.base.specs.Lists.{rangeFrom}
+use Rattle.base.specs.Lists.{range_from}
 use Rattle.base.specs.Answers.{front}
-use Rattle.base.proofs.Ranges.{length-map-range, getD-map-range}
-use Rattle.base.proofs.Fronts.{front-none, front-next, length_front}
+use Rattle.base.proofs.Ranges.{length_map_range, get_d-map_range}
+use Rattle.base.proofs.Fronts.{front_none, front_next, length_front}
 use Rattle.document_counts.proofs.clear_counts.Statement.{statement}
 use Rattle.document_counts.proofs.clear_counts.Tie as tie
 
 -- so many zeros
 abbrev zeros : ℕ → List ℕ
-zeros n = map (λ (k : ℕ). 0) (rangeFrom 0 n)
+zeros n = map (λ (k : ℕ). 0) (range_from 0 n)
 
 long : (n : ℕ) → length (zeros n) ≡ n
-long n = length-map-range (λ (k : ℕ). 0) 0 n
+long n = length_map_range (λ (k : ℕ). 0) 0 n
 
 -- as many as are written stand in front
 abbrev invariant-loop : tie.invariant-loop
@@ -33,7 +33,7 @@ kept size i entry slice room h e =
     ap length e ∙ length_front (take i (zeros size)) entry (omega (arith, length-take-le i (zeros size) (omega (arith, long size))))
 
 loop-holds : tie.Need-loop-init invariant-loop decreases-loop
-loop-holds c = (omega arith, sym (front-none c.args.counts.now))
+loop-holds c = (omega arith, sym (front_none c.args.counts.now))
 
 mul-counts : tie.Need-overflow-mul-counts invariant-loop decreases-loop
 mul-counts c = search rules
@@ -57,8 +57,8 @@ loop-again c =
     let z = zeros st.args.size in (
       omega arith,
       ap (λ (xs : List ℕ). set xs l.i 0) l.invariant.1
-          ∙ ap (set (front (take l.i z) st.args.counts.now) l.i) (sym (getD-map-range (λ (k : ℕ). 0) st.args.size l.i 0 (omega arith)))
-          ∙ front-next z st.args.counts.now l.i (omega (arith, long st.args.size)) (omega (arith, st.requires)),
+          ∙ ap (set (front (take l.i z) st.args.counts.now) l.i) (sym (get_d-map_range (λ (k : ℕ). 0) st.args.size l.i 0 (omega arith)))
+          ∙ front_next z st.args.counts.now l.i (omega (arith, long st.args.size)) (omega (arith, st.requires)),
     )
 
 same_length : tie.Need-same-length invariant-loop decreases-loop

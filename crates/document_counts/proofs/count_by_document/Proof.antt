@@ -7,25 +7,25 @@ use mathlib.Core.List.{List, []}
 use native.Mathlib.Omega.{arith}
 use borrow.Author.Rules.{rules}
 use lib.ListN.{length, get_or, set}
-use Rattle.base.specs.Lists.{filterBy, rangeFrom}
+use Rattle.base.specs.Lists.{filter_by, range_from}
 use Rattle.base.specs.Answers.{front}
-use Rattle.base.proofs.Ranges.{length-filter-range, length-map-range}
-use Rattle.base.proofs.Fronts.{length_front, front-over}
+use Rattle.base.proofs.Ranges.{length_filter_range, length_map_range}
+use Rattle.base.proofs.Fronts.{length_front, front_over}
 use Rattle.tree.specs.declared.Place.{Place}
-use Rattle.index.specs.Arrays.{arrays, textIn}
-use Rattle.words.proofs.Parts.{checked-some}
-use Rattle.words.proofs.Positions.{text-most}
-use Rattle.documents.specs.Documents.{documentOf, standsIn, placesIn, countInDocument, countsByDocument}
-use Rattle.documents.proofs.Starts.{starts-are}
-use Rattle.documents.proofs.Numbers.{document-some, document-most}
-use Rattle.documents.proofs.Inside.{anchored-in}
+use Rattle.index.specs.Arrays.{arrays, text_in}
+use Rattle.words.proofs.Parts.{checked_some}
+use Rattle.words.proofs.Positions.{text_most}
+use Rattle.documents.specs.Documents.{document_of, stands_in, places_in, count_in_document, counts_by_document}
+use Rattle.documents.proofs.Starts.{starts_are}
+use Rattle.documents.proofs.Numbers.{document_some, document_most}
+use Rattle.documents.proofs.Inside.{anchored_in}
 use Rattle.matching.specs.declared.Sought.TheVariants.{Phrase}
 use Rattle.hits.specs.declared.Hit.{Hit}
 use Rattle.hits.specs.declared.Hit.TheVariants.{At}
-use Rattle.hits.specs.Hits.{hitsBetween, leastHit}
-use Rattle.hits.specs.Searches.{SearchFor, placeAfter}
-use Rattle.hits.proofs.Least.{hit-after, hit-below, hit-holds, hits_more, hits-over}
-use Rattle.document_counts.proofs.Counts.{countAmong, countsAmong, count-few, count-stands, count-more}
+use Rattle.hits.specs.Hits.{hits_between, least_hit}
+use Rattle.hits.specs.Searches.{SearchFor, place_after}
+use Rattle.hits.proofs.Least.{hit_after, hit_below, hit_holds, hits_more, hits_over}
+use Rattle.document_counts.proofs.Counts.{count_among, counts_among, count_few_lem, count_stands, count_more}
 use Rattle.document_counts.proofs.count_by_document.Statement.{statement}
 use Rattle.document_counts.proofs.count_by_document.Tie as tie
 
@@ -34,17 +34,17 @@ abbrev invariant-loop : tie.invariant-loop
 invariant-loop s shape lengths bytes superblocks blocks starts documents firsts words counts₀ end search₀ counts search =
     (search.place.0 ≤ end.0)
     × SearchFor s shape (arrays lengths bytes superblocks blocks) starts words Phrase search
-    × (counts ≡ front (countsAmong documents (hitsBetween (standsIn documents (textIn s (arrays lengths bytes superblocks blocks)) words) 0 search.place.0)) counts₀)
+    × (counts ≡ front (counts_among documents (hits_between (stands_in documents (text_in s (arrays lengths bytes superblocks blocks)) words) 0 search.place.0)) counts₀)
 
 abbrev decreases-loop : tie.decreases-loop
 decreases-loop s shape lengths bytes superblocks blocks starts documents firsts words counts₀ end search₀ counts search = end.0 - search.place.0
 
 -- the text, and the test of its places
 abbrev text : tie.Start invariant-loop decreases-loop → List ℕ
-text st = textIn st.args.s (arrays st.args.lengths.now st.args.bytes.now st.args.superblocks.now st.args.blocks.now)
+text st = text_in st.args.s (arrays st.args.lengths.now st.args.bytes.now st.args.superblocks.now st.args.blocks.now)
 
 abbrev test : tie.Start invariant-loop decreases-loop → ℕ → Bool
-test st = standsIn st.args.documents.now (text st) st.args.words.now
+test st = stands_in st.args.documents.now (text st) st.args.words.now
 
 abbrev start : tie.After-text-length invariant-loop decreases-loop → tie.Start invariant-loop decreases-loop
 start c = c.before.before.before.before.before.before.before.before.before.before
@@ -53,10 +53,10 @@ size : (c : tie.After-text-length invariant-loop decreases-loop) → c.text-leng
 size c = c.text-length.ensures.1 _ _ _ _ _ (start c).requires.0.searchable.ready.checked
 
 text-length-requires : tie.Need-text-length-requires invariant-loop decreases-loop
-text-length-requires c κs = checked-some c.before.before.before.before.before.before.before.before.before.requires.0.searchable.ready.checked
+text-length-requires c κs = checked_some c.before.before.before.before.before.before.before.before.before.requires.0.searchable.ready.checked
 
 add-t19 : tie.Need-overflow-add-t19 invariant-loop decreases-loop
-add-t19 c = omega (arith, size c, text-most (start c).requires.0.searchable.ready.checked)
+add-t19 c = omega (arith, size c, text_most (start c).requires.0.searchable.ready.checked)
 
 clear-counts-requires : tie.Need-clear-counts-requires invariant-loop decreases-loop
 clear-counts-requires c κs = omega (arith, (start c.before).pre.2)
@@ -74,16 +74,16 @@ begun c = c.before.before.before.before.before
 abbrev cleared : tie.After-begin invariant-loop decreases-loop → List ℕ
 cleared c = c.before.before.before.clear-counts.new.0
 
-cleared-is : (c : tie.After-begin invariant-loop decreases-loop) → cleared c ≡ front (countsAmong (start (begun c)).args.documents.now []) (start (begun c)).args.counts.now
+cleared-is : (c : tie.After-begin invariant-loop decreases-loop) → cleared c ≡ front (counts_among (start (begun c)).args.documents.now []) (start (begun c)).args.counts.now
 cleared-is c = c.before.before.before.clear-counts.ensures
 
 -- whatever counts come in front of it come in front of the slice as it was
 over_zeros : (c : tie.After-begin invariant-loop decreases-loop) (qs : List ℕ)
-    → front (countsAmong (start (begun c)).args.documents.now qs) (cleared c) ≡ front (countsAmong (start (begun c)).args.documents.now qs) (start (begun c)).args.counts.now
+    → front (counts_among (start (begun c)).args.documents.now qs) (cleared c) ≡ front (counts_among (start (begun c)).args.documents.now qs) (start (begun c)).args.counts.now
 over_zeros c qs =
     let d = (start (begun c)).args.documents.now in
-    ap (front (countsAmong d qs)) (cleared-is c)
-    ∙ front-over (countsAmong d []) (countsAmong d qs) (start (begun c)).args.counts.now (omega (arith, length-map-range (countAmong d []) 0 (length d), length-map-range (countAmong d qs) 0 (length d)))
+    ap (front (counts_among d qs)) (cleared-is c)
+    ∙ front_over (counts_among d []) (counts_among d qs) (start (begun c)).args.counts.now (omega (arith, length_map_range (count_among d []) 0 (length d), length_map_range (count_among d qs) 0 (length d)))
 
 loop-holds : tie.Need-loop-init invariant-loop decreases-loop
 loop-holds c =
@@ -93,7 +93,7 @@ loop-holds c =
 next-hit-requires : tie.Need-next-hit-requires invariant-loop decreases-loop
 next-hit-requires c κs =
     let st = start (begun c.before) in
-    (st.pre.0, c.loop.invariant.1, c.loop.invariant.0, (starts-are _ _ st.pre.1).ascending)
+    (st.pre.0, c.loop.invariant.1, c.loop.invariant.0, (starts_are _ _ st.pre.1).ascending)
 
 enum-known-hit : tie.Need-enum-known-hit invariant-loop decreases-loop
 enum-known-hit c = search rules
@@ -109,29 +109,29 @@ module _ (c : tie.At-loop invariant-loop decreases-loop) where
   abbrev end : ℕ
   end = (begun c.before).text-length.result + 1
 
-  abbrev hitsSoFar : List ℕ
-  hitsSoFar = hitsBetween (test st) 0 c.loop.search.place.0
+  abbrev hits_so_far : List ℕ
+  hits_so_far = hits_between (test st) 0 c.loop.search.place.0
 
-  counted : c.loop.counts ≡ front (countsAmong st.args.documents.now hitsSoFar) st.args.counts.now
-  counted = c.loop.invariant.2 ∙ over_zeros c.before hitsSoFar
+  counted : c.loop.counts ≡ front (counts_among st.args.documents.now hits_so_far) st.args.counts.now
+  counted = c.loop.invariant.2 ∙ over_zeros c.before hits_so_far
 
   kept : length c.loop.counts ≡ length st.args.counts.now
   kept =
       ap length counted
-      ∙ length_front (countsAmong st.args.documents.now hitsSoFar) st.args.counts.now (omega (arith, length-map-range (countAmong st.args.documents.now hitsSoFar) 0 (length st.args.documents.now), st.pre.2))
+      ∙ length_front (counts_among st.args.documents.now hits_so_far) st.args.counts.now (omega (arith, length_map_range (count_among st.args.documents.now hits_so_far) 0 (length st.args.documents.now), st.pre.2))
 
 same_length : tie.Need-same-length invariant-loop decreases-loop
 same_length c = kept c.before.before.before
 
 returns : tie.Need-returns invariant-loop decreases-loop
-unfolding countsByDocument countInDocument placesIn
+unfolding counts_by_document count_in_document places_in
 returns c =
     let l = c.before.before.before in
     let t = text (st l) in
-    let over : hitsBetween (test (st l)) 0 (end l) ≡ hitsSoFar l = hits-over (test (st l)) l.loop.search.place.0 (end l) (sym c.before.before.next-hit.ensures.hit-is ∙ c.enum_told.given.1) 0 (omega arith) l.loop.invariant.0 in
+    let over : hits_between (test (st l)) 0 (end l) ≡ hits_so_far l = hits_over (test (st l)) l.loop.search.place.0 (end l) (sym c.before.before.next-hit.ensures.hit_is ∙ c.enum_told.given.1) 0 (omega arith) l.loop.invariant.0 in
     let n : end l - 0 ≡ suc (length t) = omega (arith, size (begun l.before)) in
     counted l
-    ∙ ap (λ (qs : List ℕ). front (countsAmong (st l).args.documents.now qs) (st l).args.counts.now) (sym over ∙ ap (λ (k : ℕ). filterBy (test (st l)) (rangeFrom 0 k)) n)
+    ∙ ap (λ (qs : List ℕ). front (counts_among (st l).args.documents.now qs) (st l).args.counts.now) (sym over ∙ ap (λ (k : ℕ). filter_by (test (st l)) (range_from 0 k)) n)
 
 -- a hit is the least from the place of the search on, lies in a document, and the search goes on after it
 module _ (c : tie.After-hit invariant-loop decreases-loop) where
@@ -141,50 +141,50 @@ module _ (c : tie.After-hit invariant-loop decreases-loop) where
   abbrev hit : Place
   hit = c.hit.given.0.0
 
-  least : leastHit (test (st l)) l.loop.search.place.0 (end l) ≡ At hit
-  least = sym c.before.before.next-hit.ensures.hit-is ∙ c.hit.given.1
+  least : least_hit (test (st l)) l.loop.search.place.0 (end l) ≡ At hit
+  least = sym c.before.before.next-hit.ensures.hit_is ∙ c.hit.given.1
 
   onward : c.before.before.next-hit.result.search.place.0 ≡ hit.0 + 1
-  onward = c.before.before.next-hit.ensures.place_is ∙ ap (λ (x : Hit). placeAfter x (end l)) c.hit.given.1
+  onward = c.before.before.next-hit.ensures.place_is ∙ ap (λ (x : Hit). place_after x (end l)) c.hit.given.1
 
   after : l.loop.search.place.0 ≤ hit.0
-  after = hit-after (test (st l)) l.loop.search.place.0 (end l) hit least
+  after = hit_after (test (st l)) l.loop.search.place.0 (end l) hit least
 
   before-end : hit.0 < end l
-  before-end = hit-below (test (st l)) l.loop.search.place.0 (end l) hit least
+  before-end = hit_below (test (st l)) l.loop.search.place.0 (end l) hit least
 
   -- a text in which the phrase stands has words
   worded : 1 ≤ length (text (st l))
   worded =
       omega (
         arith,
-        (anchored-in (st l).args.documents.now (text (st l)) (st l).args.words.now 0 (st l).pre.0.searchable.some).inside hit.0 (hit-holds (test (st l)) l.loop.search.place.0 (end l) hit least),
+        (anchored_in (st l).args.documents.now (text (st l)) (st l).args.words.now 0 (st l).pre.0.searchable.some).inside hit.0 (hit_holds (test (st l)) l.loop.search.place.0 (end l) hit least),
       )
 
-  numbered : 1 ≤ documentOf (st l).args.documents.now hit.0
-  numbered = document-some (length (text (st l))) (st l).args.documents.now hit.0 (st l).pre.1 worded
+  numbered : 1 ≤ document_of (st l).args.documents.now hit.0
+  numbered = document_some (length (text (st l))) (st l).args.documents.now hit.0 (st l).pre.1 worded
 
-  number-most : documentOf (st l).args.documents.now hit.0 ≤ length (st l).args.documents.now
-  number-most = document-most (st l).args.documents.now hit.0
+  number-most : document_of (st l).args.documents.now hit.0 ≤ length (st l).args.documents.now
+  number-most = document_most (st l).args.documents.now hit.0
 
   -- its count is small
-  small : get_or l.loop.counts (documentOf (st l).args.documents.now hit.0 - 1) 0 < 4294967295
+  small : get_or l.loop.counts (document_of (st l).args.documents.now hit.0 - 1) 0 < 4294967295
   small =
       omega (
         arith,
-        ap (λ (xs : List ℕ). get_or xs (documentOf (st l).args.documents.now hit.0 - 1) 0) (counted l),
-        count-stands (st l).args.documents.now (hitsSoFar l) hit.0 (st l).args.counts.now numbered number-most,
-        count-few (st l).args.documents.now (hitsSoFar l) hit.0 (documentOf (st l).args.documents.now hit.0 - 1),
-        length-filter-range (test (st l)) 0 (l.loop.search.place.0 - 0),
+        ap (λ (xs : List ℕ). get_or xs (document_of (st l).args.documents.now hit.0 - 1) 0) (counted l),
+        count_stands (st l).args.documents.now (hits_so_far l) hit.0 (st l).args.counts.now numbered number-most,
+        count_few_lem (st l).args.documents.now (hits_so_far l) hit.0 (document_of (st l).args.documents.now hit.0 - 1),
+        length_filter_range (test (st l)) 0 (l.loop.search.place.0 - 0),
         l.loop.inv.0,
         size (begun l.before),
-        text-most (st l).pre.0.searchable.ready.checked,
+        text_most (st l).pre.0.searchable.ready.checked,
       )
 
 count-place-requires : tie.Need-count-place-requires invariant-loop decreases-loop
 count-place-requires c κs =
     let x = c.before.before in
-    ((starts-are _ _ (st (l x)).pre.1).ascending, numbered x, omega (arith, number-most x, kept (l x), (st (l x)).pre.2), small x)
+    ((starts_are _ _ (st (l x)).pre.1).ascending, numbered x, omega (arith, number-most x, kept (l x), (st (l x)).pre.2), small x)
 
 loop-less : tie.Need-loop-smaller invariant-loop decreases-loop
 loop-less c =
@@ -196,13 +196,13 @@ loop-again c =
     let x = c.before.before.before.before.before.before in
     let y = l x in
     let z = st y in
-    let n = documentOf z.args.documents.now (hit x).0 - 1 in (
+    let n = document_of z.args.documents.now (hit x).0 - 1 in (
       omega (arith, onward x, before-end x),
       x.before.before.next-hit.ensures.search_is,
       rw (onward x, hits_more (test z) y.loop.search.place.0 (end y) (hit x) (least x) 0 (omega arith))
           (c.before.before.before.count-place.ensures
           ∙ ap (λ (xs : List ℕ). set xs n (get_or xs n 0 + 1)) y.loop.inv.2
-          ∙ count-more z.args.documents.now (hitsSoFar y) (hit x).0 (cleared y.before) (numbered x) (number-most x)),
+          ∙ count_more z.args.documents.now (hits_so_far y) (hit x).0 (cleared y.before) (numbered x) (number-most x)),
     )
 
 pub count-by-document-spec : {M : Type 1} → statement M

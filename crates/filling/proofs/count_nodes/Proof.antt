@@ -5,15 +5,15 @@ use native.Mathlib.Omega.{arith}
 use borrow.Author.Rules.{rules}
 use lib.ListN.{length, take, length-replicate}
 use lib.Seq.{take_all}
-use Rattle.tree.specs.Nodes.{nodeBytes}
-use Rattle.filling.specs.Filling.{nodeLengths, LengthsCounted}
-use Rattle.filling.proofs.Filling.{counted_none, counted_same, counted-lengths}
+use Rattle.tree.specs.Nodes.{node_bytes}
+use Rattle.filling.specs.Filling.{node_lengths, LengthsCounted}
+use Rattle.filling.proofs.Filling.{counted_none, counted_same, counted_lengths}
 use Rattle.filling.proofs.count_nodes.Statement.{statement}
 use Rattle.filling.proofs.count_nodes.Tie as tie
 
 abbrev invariant-loop : tie.invariant-loop
 invariant-loop s text lengths₀ place₀ lengths place =
-    (place ≤ length text) × (length lengths ≡ length lengths₀) × LengthsCounted (λ k. nodeBytes s k (take place text)) lengths
+    (place ≤ length text) × (length lengths ≡ length lengths₀) × LengthsCounted (λ k. node_bytes s k (take place text)) lengths
 
 abbrev decreases-loop : tie.decreases-loop
 decreases-loop s text lengths₀ place₀ lengths place = length text - place
@@ -49,9 +49,9 @@ same_length c = search rules
 returns : tie.Need-returns invariant-loop decreases-loop
 returns c = let a = c.before.before.before.before.before.before.before.before.args in
     let l = c.before.loop in
-    let all : (k : ℕ) → nodeBytes a.s k (take l.place a.text.now) ≡ nodeBytes a.s k a.text.now = λ k. ap (nodeBytes a.s k) (take_all l.place a.text.now (omega arith)) in
-    counted-lengths a.s a.text.now l.lengths (counted_same _ _ l.lengths all l.invariant.2)
-    ∙ ap (λ (n : ℕ). nodeLengths a.s n a.text.now) (as_long c.before)
+    let all : (k : ℕ) → node_bytes a.s k (take l.place a.text.now) ≡ node_bytes a.s k a.text.now = λ k. ap (node_bytes a.s k) (take_all l.place a.text.now (omega arith)) in
+    counted_lengths a.s a.text.now l.lengths (counted_same _ _ l.lengths all l.invariant.2)
+    ∙ ap (λ (n : ℕ). node_lengths a.s n a.text.now) (as_long c.before)
 
 pub count-nodes-spec : {M : Type 1} → statement M
 count-nodes-spec =

@@ -4,17 +4,17 @@ use mathlib.Core.Path.{◌≡◌, refl, sym, ◌∙◌}
 use native.Mathlib.Omega.{arith}
 use borrow.Author.Rules.{rules}
 use lib.ListN.{length, get_or, length-set}
-use Rattle.base.proofs.Lists.{all-at}
-use Rattle.dense.specs.Code.{maxVocabulary}
-use Rattle.dense.proofs.Words.{encoded-length}
+use Rattle.base.proofs.Lists.{all_at}
+use Rattle.dense.specs.Code.{max_vocabulary}
+use Rattle.dense.proofs.Words.{encoded_length}
 use Rattle.filling.specs.Filling.{LengthsCounted}
-use Rattle.filling.proofs.Filling.{nodeAt, held, word, encoded-byte, held_none, held_all, counted_same, node-next, counted_next, next-inside, next-most}
+use Rattle.filling.proofs.Filling.{node_at, held, word, encoded_byte, held_none, held_all, counted_same, node_next, counted_next, next_inside, next_most}
 use Rattle.filling.proofs.count_word.Statement.{statement}
 use Rattle.filling.proofs.count_word.Tie as tie
 
 abbrev invariant-loop : tie.invariant-loop
 invariant-loop s text lengths₀ at code count node₀ i₀ lengths node i =
-    (i ≤ count) × (node ≡ nodeAt s text at i) × (length lengths ≡ length lengths₀) × LengthsCounted (held s text at i) lengths
+    (i ≤ count) × (node ≡ node_at s text at i) × (length lengths ≡ length lengths₀) × LengthsCounted (held s text at i) lengths
 
 abbrev decreases-loop : tie.decreases-loop
 decreases-loop s text lengths₀ at code count node₀ i₀ lengths node i = count - i
@@ -23,7 +23,7 @@ decreases-loop s text lengths₀ at code count node₀ i₀ lengths node i = cou
 count-is : (c : tie.At-loop invariant-loop decreases-loop) → c.before.encode.result.length
     ≡ length (word c.before.before.before.before.before.args.s c.before.before.before.before.before.args.text.now c.before.before.before.before.before.args.place.0)
 count-is c = let a = c.before.before.before.before.before.args in
-    encoded-length a.s (get_or a.text.now a.place.0 0) c.before.encode.result c.before.encode.ensures.0 c.before.encode.ensures.1
+    encoded_length a.s (get_or a.text.now a.place.0 0) c.before.encode.result c.before.encode.ensures.0 c.before.encode.ensures.1
 
 -- the next byte is one of the codeword
 more : (c : tie.In-loop invariant-loop decreases-loop) → c.before.loop.i
@@ -34,7 +34,7 @@ more c = omega (arith, count-is c.before, c.loop-test.true)
 inside : (c : tie.In-loop invariant-loop decreases-loop) → c.before.loop.node < length c.before.loop.lengths
 inside c = let start = c.before.before.before.before.before.before in
     let l = c.before.loop in
-    omega (arith, l.invariant.2, next-inside start.args.s start.args.text.now start.args.place.0 l.i (more c) l.node l.invariant.1 (length start.args.lengths.now) start.requires.0 start.requires.1)
+    omega (arith, l.invariant.2, next_inside start.args.s start.args.text.now start.args.place.0 l.i (more c) l.node l.invariant.1 (length start.args.lengths.now) start.requires.0 start.requires.1)
 
 mul-encode : tie.Need-overflow-mul-encode invariant-loop decreases-loop
 mul-encode c = search rules
@@ -47,7 +47,7 @@ cast-encode c = omega (arith, c.shared-slice-known2.given c.before.before.before
 
 encode-requires : tie.Need-encode-requires invariant-loop decreases-loop
 encode-requires c κs = let start = c.before.before.before in
-    (start.requires.0.closing, all-at (λ (i : ℕ). i < maxVocabulary start.args.s) start.args.text.now 0 start.args.place.0 start.requires.0.codes start.requires.1)
+    (start.requires.0.closing, all_at (λ (i : ℕ). i < max_vocabulary start.args.s) start.args.text.now 0 start.args.place.0 start.requires.0.codes start.requires.1)
 
 loop-holds : tie.Need-loop-init invariant-loop decreases-loop
 loop-holds c = let start = c.before.before.before.before in
@@ -62,7 +62,7 @@ slice-read-lengths c = inside c.before
 add-lengths : tie.Need-overflow-add-lengths invariant-loop decreases-loop
 add-lengths c = let start = c.before.before.before.before.before.before.before in
     let l = c.before.before.loop in
-    omega (arith, next-most start.args.s start.args.text.now start.args.place.0 l.i (more c.before) l.node l.invariant.1 (length start.args.lengths.now) start.requires.0 start.requires.1 l.lengths l.invariant.2 l.invariant.3)
+    omega (arith, next_most start.args.s start.args.text.now start.args.place.0 l.i (more c.before) l.node l.invariant.1 (length start.args.lengths.now) start.requires.0 start.requires.1 l.lengths l.invariant.2 l.invariant.3)
 
 slice-write-lengths : tie.Need-slice-write-lengths invariant-loop decreases-loop
 slice-write-lengths c = inside c.before
@@ -86,7 +86,7 @@ loop-again c = let a = c.before.before.before.before.before.before.before.before
     let m = more c.before.before in
     let call = c.before.before.before.before.encode in (
       omega arith,
-      c.child.ensures ∙ node-next a.s a.text.now a.place.0 l.i m l.node l.invariant.1 _ (encoded-byte a.s (get_or a.text.now a.place.0 0) call.result call.ensures.0 l.i c.before.before.loop-test.true),
+      c.child.ensures ∙ node_next a.s a.text.now a.place.0 l.i m l.node l.invariant.1 _ (encoded_byte a.s (get_or a.text.now a.place.0 0) call.result call.ensures.0 l.i c.before.before.loop-test.true),
       simp length-set (omega arith),
       counted_next a.s a.text.now a.place.0 l.i m l.node l.invariant.1 l.lengths (inside c.before.before) l.invariant.3,
     )

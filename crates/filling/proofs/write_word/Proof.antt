@@ -4,17 +4,17 @@ use mathlib.Core.Path.{◌≡◌, refl, sym, ap, ◌∙◌}
 use native.Mathlib.Omega.{arith}
 use borrow.Author.Rules.{rules}
 use lib.ListN.{length, get_or, length-set}
-use Rattle.base.proofs.Lists.{all-at}
-use Rattle.dense.specs.Code.{maxVocabulary}
-use Rattle.dense.proofs.Words.{encoded-length}
+use Rattle.base.proofs.Lists.{all_at}
+use Rattle.dense.specs.Code.{max_vocabulary}
+use Rattle.dense.proofs.Words.{encoded_length}
 use Rattle.filling.specs.Filling.{LengthsCounted, Stands}
-use Rattle.filling.proofs.Filling.{lengths-number, nodeAt, held, word, encoded-byte, held_none, held_all, counted_same, stands_same, node-next, counted_next, stands-next, next-inside, next-most, next_place}
+use Rattle.filling.proofs.Filling.{lengths_number, node_at, held, word, encoded_byte, held_none, held_all, counted_same, stands_same, node_next, counted_next, stands_next, next_inside, next_most, next_place}
 use Rattle.filling.proofs.write_word.Statement.{statement}
 use Rattle.filling.proofs.write_word.Tie as tie
 
 abbrev invariant-loop : tie.invariant-loop
 invariant-loop s text starts lengths₀ bytes₀ at code size node₀ i₀ lengths bytes node i =
-    (i ≤ size) × (node ≡ nodeAt s text at i) × (length lengths ≡ length lengths₀) × (length bytes ≡ length bytes₀)
+    (i ≤ size) × (node ≡ node_at s text at i) × (length lengths ≡ length lengths₀) × (length bytes ≡ length bytes₀)
     × LengthsCounted (held s text at i) lengths × Stands (held s text at i) (length lengths₀) starts bytes
 
 abbrev decreases-loop : tie.decreases-loop
@@ -24,7 +24,7 @@ decreases-loop s text starts lengths₀ bytes₀ at code size node₀ i₀ lengt
 size_is : (c : tie.At-loop invariant-loop decreases-loop) → c.before.encode.result.length
     ≡ length (word c.before.before.before.before.before.before.before.args.s c.before.before.before.before.before.before.before.args.text.now c.before.before.before.before.before.before.before.args.place.0)
 size_is c = let a = c.before.before.before.before.before.before.before.args in
-    encoded-length a.s (get_or a.text.now a.place.0 0) c.before.encode.result c.before.encode.ensures.0 c.before.encode.ensures.1
+    encoded_length a.s (get_or a.text.now a.place.0 0) c.before.encode.result c.before.encode.ensures.0 c.before.encode.ensures.1
 
 -- the next byte is one of the codeword
 more : (c : tie.In-loop invariant-loop decreases-loop) → c.before.loop.i
@@ -35,7 +35,7 @@ more c = omega (arith, size_is c.before, c.loop-test.true)
 inside : (c : tie.In-loop invariant-loop decreases-loop) → c.before.loop.node < length c.before.before.before.before.before.before.before.before.args.lengths.now
 inside c = let start = c.before.before.before.before.before.before.before.before in
     let l = c.before.loop in
-    next-inside start.args.s start.args.text.now start.args.place.0 l.i (more c) l.node l.invariant.1 (length start.args.lengths.now) start.requires.0.0 start.requires.0.2
+    next_inside start.args.s start.args.text.now start.args.place.0 l.i (more c) l.node l.invariant.1 (length start.args.lengths.now) start.requires.0.0 start.requires.0.2
 
 mul-encode : tie.Need-overflow-mul-encode invariant-loop decreases-loop
 mul-encode c = search rules
@@ -48,7 +48,7 @@ cast-encode c = omega (arith, c.shared-slice-known3.given c.before.before.before
 
 encode-requires : tie.Need-encode-requires invariant-loop decreases-loop
 encode-requires c κs = let start = c.before.before.before.before.before in
-    (start.requires.0.0.closing, all-at (λ (i : ℕ). i < maxVocabulary start.args.s) start.args.text.now 0 start.args.place.0 start.requires.0.0.codes start.requires.0.2)
+    (start.requires.0.0.closing, all_at (λ (i : ℕ). i < max_vocabulary start.args.s) start.args.text.now 0 start.args.place.0 start.requires.0.0.codes start.requires.0.2)
 
 loop-holds : tie.Need-loop-init invariant-loop decreases-loop
 loop-holds c = let start = c.before.before.before.before.before.before in
@@ -70,9 +70,9 @@ write-byte-requires c κs = let start = c.before.before.before.before.before.bef
     let l = c.before.before.before.loop in
     let n = length a.lengths.now in
     let m = more c.before.before in (
-      omega (arith, inside c.before.before, start.requires.0.1.begin.room, lengths-number a.s n a.text.now),
+      omega (arith, inside c.before.before, start.requires.0.1.begin.room, lengths_number a.s n a.text.now),
       omega (arith, inside c.before.before, l.invariant.2),
-      next-most a.s a.text.now a.place.0 l.i m l.node l.invariant.1 n start.requires.0.0 start.requires.0.2 l.lengths l.invariant.2 l.invariant.4,
+      next_most a.s a.text.now a.place.0 l.i m l.node l.invariant.1 n start.requires.0.0 start.requires.0.2 l.lengths l.invariant.2 l.invariant.4,
       next_place a.s a.text.now a.place.0 l.i m l.node l.invariant.1 n start.requires.0.0 start.requires.0.2 a.starts.now l.lengths l.bytes start.requires.0.1.begin (omega (arith, start.requires.0.1.whole, l.invariant.3)) l.invariant.2 l.invariant.4,
     )
 
@@ -97,13 +97,13 @@ loop-again c = let start = c.before.before.before.before.before.before.before.be
     let n = length a.lengths.now in
     let call = c.before.before.before.before.before.before.before.before.before.before.encode in
     let wrote = c.before.before.before.before.before.write_byte in
-    let byte = encoded-byte a.s (get_or a.text.now a.place.0 0) call.result call.ensures.0 l.i c.before.before.before.before.before.before.before.before.loop-test.true in (
+    let byte = encoded_byte a.s (get_or a.text.now a.place.0 0) call.result call.ensures.0 l.i c.before.before.before.before.before.before.before.before.loop-test.true in (
       omega (arith, c.before.before.before.before.before.before.before.before.loop-test.true),
-      c.child.ensures ∙ node-next a.s a.text.now a.place.0 l.i m l.node l.invariant.1 _ byte,
+      c.child.ensures ∙ node_next a.s a.text.now a.place.0 l.i m l.node l.invariant.1 _ byte,
       ap length wrote.ensures.0 ∙ simp length-set l.invariant.2,
       ap length wrote.ensures.1 ∙ simp length-set l.invariant.3,
       rw wrote.ensures.0 (counted_next a.s a.text.now a.place.0 l.i m l.node l.invariant.1 l.lengths (omega (arith, inside c.before.before.before.before.before.before.before.before, l.invariant.2)) l.invariant.4),
-      rw wrote.ensures.1 (stands-next a.s a.text.now a.place.0 l.i m l.node l.invariant.1 n start.requires.0.0 start.requires.0.2 a.starts.now l.lengths l.bytes start.requires.0.1.begin (omega (arith, start.requires.0.1.whole, l.invariant.3)) l.invariant.2 l.invariant.4 _ byte l.invariant.5),
+      rw wrote.ensures.1 (stands_next a.s a.text.now a.place.0 l.i m l.node l.invariant.1 n start.requires.0.0 start.requires.0.2 a.starts.now l.lengths l.bytes start.requires.0.1.begin (omega (arith, start.requires.0.1.whole, l.invariant.3)) l.invariant.2 l.invariant.4 _ byte l.invariant.5),
     )
 
 same_length : tie.Need-same-length invariant-loop decreases-loop

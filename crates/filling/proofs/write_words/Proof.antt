@@ -5,16 +5,16 @@ use native.Mathlib.Omega.{arith}
 use borrow.Author.Rules.{rules}
 use lib.ListN.{length, take, length-replicate}
 use lib.Seq.{take_all}
-use Rattle.tree.specs.Nodes.{nodeBytes}
-use Rattle.filling.specs.Filling.{nodeLengths, LengthsCounted, Stands}
-use Rattle.filling.proofs.Filling.{counted_none, counted_same, counted-lengths, stands-none, stands_same, stands-whole}
+use Rattle.tree.specs.Nodes.{node_bytes}
+use Rattle.filling.specs.Filling.{node_lengths, LengthsCounted, Stands}
+use Rattle.filling.proofs.Filling.{counted_none, counted_same, counted_lengths, stands_none, stands_same, stands_whole}
 use Rattle.filling.proofs.write_words.Statement.{statement}
 use Rattle.filling.proofs.write_words.Tie as tie
 
 abbrev invariant-loop : tie.invariant-loop
 invariant-loop s text starts lengths₀ bytes₀ place₀ lengths bytes place =
     (place ≤ length text) × (length lengths ≡ length lengths₀) × (length bytes ≡ length bytes₀)
-    × LengthsCounted (λ k. nodeBytes s k (take place text)) lengths × Stands (λ k. nodeBytes s k (take place text)) (length lengths) starts bytes
+    × LengthsCounted (λ k. node_bytes s k (take place text)) lengths × Stands (λ k. node_bytes s k (take place text)) (length lengths) starts bytes
 
 abbrev decreases-loop : tie.decreases-loop
 decreases-loop s text starts lengths₀ bytes₀ place₀ lengths bytes place = length text - place
@@ -28,7 +28,7 @@ clear-requires c κs = search rules
 
 loop-holds : tie.Need-loop-init invariant-loop decreases-loop
 loop-holds c = let a = c.before.before.before.before.before.before.before.before.args in
-    (omega arith, refl, refl, rw c.before.before.clear.ensures (counted_none a.s a.text.now (length a.lengths.now)), stands-none a.s a.text.now _ a.starts.now a.bytes.now)
+    (omega arith, refl, refl, rw c.before.before.clear.ensures (counted_none a.s a.text.now (length a.lengths.now)), stands_none a.s a.text.now _ a.starts.now a.bytes.now)
 
 write-word-requires : tie.Need-write-word-requires invariant-loop decreases-loop
 write-word-requires c κs = let start = c.before.before.before.before.before.before.before.before.before.before.before.before in
@@ -64,9 +64,9 @@ returns c = let start = c.before.before.before.before.before.before.before.befor
     let a = start.args in
     let l = c.before.loop in
     let n : length l.lengths ≡ length a.lengths.now = as_long c.before in
-    let all : (k : ℕ) → nodeBytes a.s k (take l.place a.text.now) ≡ nodeBytes a.s k a.text.now = λ k. ap (nodeBytes a.s k) (take_all l.place a.text.now (omega arith)) in (
-      counted-lengths a.s a.text.now l.lengths (counted_same _ _ l.lengths all l.invariant.3) ∙ ap (λ (m : ℕ). nodeLengths a.s m a.text.now) n,
-      stands-whole a.s (length a.lengths.now) a.text.now a.starts.now l.bytes start.requires.1.begin (start.requires.1.whole ∙ sym l.invariant.2)
+    let all : (k : ℕ) → node_bytes a.s k (take l.place a.text.now) ≡ node_bytes a.s k a.text.now = λ k. ap (node_bytes a.s k) (take_all l.place a.text.now (omega arith)) in (
+      counted_lengths a.s a.text.now l.lengths (counted_same _ _ l.lengths all l.invariant.3) ∙ ap (λ (m : ℕ). node_lengths a.s m a.text.now) n,
+      stands_whole a.s (length a.lengths.now) a.text.now a.starts.now l.bytes start.requires.1.begin (start.requires.1.whole ∙ sym l.invariant.2)
           (rw n at (stands_same _ _ (length l.lengths) a.starts.now l.bytes all l.invariant.4)),
     )
 

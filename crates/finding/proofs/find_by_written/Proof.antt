@@ -5,16 +5,16 @@ use borrow.Author.Rules.{rules}
 use borrow.Author.Tests.{not-true, not-false}
 use Rattle.base.specs.Answers.{accepted}
 use Rattle.base.specs.Texts.{outside}
-use Rattle.dense.specs.Code.{maxVocabulary}
-use Rattle.lexicon.specs.Lexicon.{listSize}
-use Rattle.plain_text.proofs.Calls.{list-by-tests, list-sized}
-use Rattle.finding.proofs.Ranks.{find-list, find-rank}
+use Rattle.dense.specs.Code.{max_vocabulary}
+use Rattle.lexicon.specs.Lexicon.{list_size}
+use Rattle.plain_text.proofs.Calls.{list_by_tests, list_sized}
+use Rattle.finding.proofs.Ranks.{find_list, find_rank}
 use Rattle.finding.proofs.find_by_written.Statement.{statement}
 use Rattle.finding.proofs.find_by_written.Tie as tie
 
 -- the number of words is within its limits
-within : (st : tie.Start) → outside 1 (maxVocabulary 128) (listSize st.args.list.now) ≡ false
-within st = ap (outside 1 (maxVocabulary 128)) (sym st.requires.2) ∙ st.requires.3
+within : (st : tie.Start) → outside 1 (max_vocabulary 128) (list_size st.args.list.now) ≡ false
+within st = ap (outside 1 (max_vocabulary 128)) (sym st.requires.2) ∙ st.requires.3
 
 slice-aggregate-is-distinct : tie.Need-slice-aggregate-is-distinct
 slice-aggregate-is-distinct c = refl
@@ -28,7 +28,7 @@ slice-aggregate-is-distinct-3 c = refl
 is-distinct-requires : tie.Need-is-distinct-requires
 is-distinct-requires c κs =
     let st = c.before.before.before.before.before.before in
-    (st.requires.0, st.requires.2 ∙ list-sized st.args.table.now st.requires.0 st.args.list.now st.requires.1, search rules)
+    (st.requires.0, st.requires.2 ∙ list_sized st.args.table.now st.requires.0 st.args.list.now st.requires.1, search rules)
 
 refused-requires : tie.Need-refused-requires
 refused-requires c κs = search rules
@@ -38,8 +38,8 @@ returns c =
     let st = c.before.before.before.before.before.before.before.before.before.before.before.before in
     let d = c.before.before.before.before.before.is-distinct in
     c.refused.ensures
-    ∙ sym (find-list st.args.table.now st.args.list.now st.args.spelling.now (within st)
-    (list-by-tests st.args.table.now st.requires.0 st.args.list.now st.requires.1 false (sym d.ensures ∙ not-true d.result c.before.if1.true)))
+    ∙ sym (find_list st.args.table.now st.args.list.now st.args.spelling.now (within st)
+    (list_by_tests st.args.table.now st.requires.0 st.args.list.now st.requires.1 false (sym d.ensures ∙ not-true d.result c.before.if1.true)))
 
 rank-of-requires : tie.Need-rank-of-requires
 rank-of-requires c κs = let st = c.before.before.before.before.before.before.before.before.before.before.before in (st.requires.0, st.requires.1, st.requires.2)
@@ -52,8 +52,8 @@ returns-2 c =
     let st = c.before.before.before.before.before.before.before.before.before.before.before.before.before in
     let d = c.before.before.before.before.before.before.is-distinct in
     c.accepted.ensures ∙ ap accepted c.before.rank-of.ensures
-    ∙ sym (find-rank st.args.table.now st.args.list.now st.args.spelling.now (within st)
-    (list-by-tests st.args.table.now st.requires.0 st.args.list.now st.requires.1 true (sym d.ensures ∙ not-false d.result c.before.before.if1.false)))
+    ∙ sym (find_rank st.args.table.now st.args.list.now st.args.spelling.now (within st)
+    (list_by_tests st.args.table.now st.requires.0 st.args.list.now st.requires.1 true (sym d.ensures ∙ not-false d.result c.before.before.if1.false)))
 
 pub find-by-written-spec : {M : Type 1} → statement M
 find-by-written-spec =

@@ -1,8 +1,8 @@
 -- `finding::find_word` meets its contract: the constant is the letter table, which keeps the rules. Assumes nothing.
 use borrow.Author.Rules.{rules}
 use Rattle.base.specs.Texts.{outside}
-use Rattle.lexicon.proofs.Tables.{letters-rule}
-use Rattle.lexicon.specs.Letters.{within, letterOf, letters}
+use Rattle.lexicon.proofs.Tables.{letters_rule}
+use Rattle.lexicon.specs.Letters.{within, letter_of, letters}
 use Rattle.finding.proofs.find_word.Statement.{statement}
 use Rattle.finding.proofs.find_word.Tie as tie
 
@@ -10,11 +10,11 @@ slice-aggregate-find-word-by : tie.Need-slice-aggregate-find-word-by
 slice-aggregate-find-word-by c = search rules
 
 find-word-by-requires : tie.Need-find-word-by-requires
-unfolding within outside letterOf letters
-find-word-by-requires c κs = letters-rule
+unfolding within outside letter_of letters
+find-word-by-requires c κs = letters_rule
 
 returns : tie.Need-returns
-unfolding within outside letterOf letters
+unfolding within outside letter_of letters
 returns c = c.find-word-by.ensures
 
 pub find-word-spec : {M : Type 1} → statement M

@@ -8,13 +8,13 @@ use borrow.Author.Rules.{rules}
 use borrow.Author.Count.{below_more}
 use lib.ListN.{length, drop, get_or}
 use Rattle.base.specs.Lists.{same}
-use Rattle.base.proofs.Lists.{first-where-at, first-where-none}
-use Rattle.lexicon.specs.Lexicon.{listRank}
+use Rattle.base.proofs.Lists.{first_where_at, first_where_none}
+use Rattle.lexicon.specs.Lexicon.{list_rank}
 use Rattle.lexicon.specs.Reading.{spellings}
-use Rattle.hashing.proofs.HashTables.{spelled-here}
-use Rattle.hashing.proofs.Parts.{WordsBefore, spelled-in, words_left, words-before-first, words-before-more}
+use Rattle.hashing.proofs.HashTables.{spelled_here}
+use Rattle.hashing.proofs.Parts.{WordsBefore, spelled_in_lem, words_left, words_before_first, words_before_more}
 use Rattle.scanning.proofs.Scans.{Next, next, begins, some_left}
-use Rattle.scanning.specs.Scans.{run_at, startFrom, WordBegins}
+use Rattle.scanning.specs.Scans.{run_at, start_from, WordBegins}
 use Rattle.finding.proofs.first_alike.Statement.{statement}
 use Rattle.finding.proofs.first_alike.Tie as tie
 
@@ -34,11 +34,11 @@ module _ (table list : List ℕ) (at rank : ℕ) (b : WordBegins table list at) 
   here : get_or (spellings table list) rank [] ≡ run_at table list at
   here =
       let z : rank + 0 ≡ rank = omega arith in
-      ap (λ (n : ℕ). get_or (spellings table list) n []) (sym z) ∙ sym (spelled-in table list at rank w 0)
-      ∙ spelled-here table list at at 0 _ refl step.words
+      ap (λ (n : ℕ). get_or (spellings table list) n []) (sym z) ∙ sym (spelled_in_lem table list at rank w 0)
+      ∙ spelled_here table list at at 0 _ refl step.words
 
-  behind : WordsBefore table list (startFrom table list (at + length (run_at table list at))) (rank + 1)
-  behind = words-before-more table list at rank _ 1 w (ap (drop 1) (sym step.words))
+  behind : WordsBefore table list (start_from table list (at + length (run_at table list at))) (rank + 1)
+  behind = words_before_more table list at rank _ 1 w (ap (drop 1) (sym step.words))
 
 -- the same at a place of the loop
 module _ (c : tie.In-loop invariant-loop decreases-loop) where
@@ -63,10 +63,10 @@ alike c =
 
 -- the next word begins behind the end of this one
 stepped : (c : tie.After-word-start2 invariant-loop decreases-loop) → let a = (start c.before.before.before.before).args in
-    c.word-start2.result ≡ startFrom a.table.now a.list.now (c.before.before.before.before.before.loop.at + length (run_at a.table.now a.list.now c.before.before.before.before.before.loop.at))
+    c.word-start2.result ≡ start_from a.table.now a.list.now (c.before.before.before.before.before.loop.at + length (run_at a.table.now a.list.now c.before.before.before.before.before.loop.at))
 stepped c =
     let a = (start c.before.before.before.before).args in
-    c.word-start2.ensures ∙ ap (startFrom a.table.now a.list.now) c.before.scan-word.ensures.0
+    c.word-start2.ensures ∙ ap (start_from a.table.now a.list.now) c.before.scan-word.ensures.0
 
 word-start-requires : tie.Need-word-start-requires invariant-loop decreases-loop
 word-start-requires c κs = search rules
@@ -74,16 +74,16 @@ word-start-requires c κs = search rules
 loop-holds : tie.Need-loop-init invariant-loop decreases-loop
 loop-holds c =
     let a = c.before.before.before.before.args in
-    rw c.word-start.ensures (omega arith, begins a.table.now a.list.now 0 (omega arith), words-before-first a.table.now a.list.now, λ q (h : q < 0). absurd (omega arith))
+    rw c.word-start.ensures (omega arith, begins a.table.now a.list.now 0 (omega arith), words_before_first a.table.now a.list.now, λ q (h : q < 0). absurd (omega arith))
 
 same-word-requires : tie.Need-same-word-requires invariant-loop decreases-loop
 same-word-requires c κs = ((start c).requires.0, omega arith, c.before.loop.invariant.1.inside)
 
 returns : tie.Need-returns invariant-loop decreases-loop
-unfolding listRank
+unfolding list_rank
 returns c =
     let a = (start c.before.before).args in
-    sym (first-where-at (same (run_at a.table.now a.spelling.now 0)) (spellings a.table.now a.list.now) [] c.before.before.before.loop.rank (inside c.before.before) c.before.before.before.loop.invariant.3
+    sym (first_where_at (same (run_at a.table.now a.spelling.now 0)) (spellings a.table.now a.list.now) [] c.before.before.before.loop.rank (inside c.before.before) c.before.before.before.loop.invariant.3
     (sym (alike c.before) ∙ c.if1.true))
 
 scan-word-requires : tie.Need-scan-word-requires invariant-loop decreases-loop
@@ -110,12 +110,12 @@ loop-again c =
     )
 
 returns-2 : tie.Need-returns-2 invariant-loop decreases-loop
-unfolding listRank
+unfolding list_rank
 returns-2 c =
     let st = c.before.before.before.before.before.before in
     let l = c.before.loop in
     let e : l.rank ≡ length (spellings st.args.table.now st.args.list.now) = omega (arith, l.invariant.0, c.loop-test.false, st.requires.1) in
-    e ∙ sym (first-where-none (same (run_at st.args.table.now st.args.spelling.now 0)) (spellings st.args.table.now st.args.list.now) [] (rw (← e) l.invariant.3))
+    e ∙ sym (first_where_none (same (run_at st.args.table.now st.args.spelling.now 0)) (spellings st.args.table.now st.args.list.now) [] (rw (← e) l.invariant.3))
 
 pub first-alike-spec : {M : Type 1} → statement M
 first-alike-spec =

@@ -1,7 +1,7 @@
 -- `formatting::digit` meets its contract. Assumes nothing.
 use mathlib.Core.Path.{sym}
 use borrow.Author.Rules.{rules}
-use Rattle.base.proofs.Tests.{cond_below, cond-not-below}
+use Rattle.base.proofs.Tests.{cond_below, cond_not_below}
 use Rattle.formatting.proofs.digit.Statement.{statement}
 use Rattle.formatting.proofs.digit.Tie as tie
 
@@ -21,7 +21,7 @@ returns : tie.Need-returns
 returns c = sym (cond_below _ _ _ _ c.if1.true)
 
 returns-2 : tie.Need-returns-2
-returns-2 c = sym (cond-not-below _ _ _ _ c.if1.false)
+returns-2 c = sym (cond_not_below _ _ _ _ c.if1.false)
 
 pub digit-spec : {M : Type 1} → statement M
 digit-spec =

@@ -2,7 +2,7 @@
 use native.Mathlib.Omega.{arith}
 use borrow.Author.Rules.{rules}
 use lib.ListN.{length-set}
-use Rattle.formatting.proofs.Texts.{byte-stored}
+use Rattle.formatting.proofs.Texts.{byte_stored}
 use Rattle.formatting.proofs.write_byte.Statement.{statement}
 use Rattle.formatting.proofs.write_byte.Tie as tie
 
@@ -36,7 +36,7 @@ same_length c = search rules
 returns : tie.Need-returns
 returns c =
     let start = c.before.before.before in
-    byte-stored start.args.byte c.before.digit.result c.digit2.result start.args.at start.args.output.now c.before.digit.ensures c.digit2.ensures start.requires
+    byte_stored start.args.byte c.before.digit.result c.digit2.result start.args.at start.args.output.now c.before.digit.ensures c.digit2.ensures start.requires
 
 pub write-byte-spec : {M : Type 1} → statement M
 write-byte-spec =

@@ -2,7 +2,7 @@
 use borrow.Author.Rules.{rules}
 use lib.ListN.{length}
 use Rattle.formatting.specs.Characters.{decimal, labelled}
-use Rattle.formatting.proofs.Wrote.{room-first, room-second, wrote-both}
+use Rattle.formatting.proofs.Wrote.{room_first, room_second, wrote_both}
 use Rattle.formatting.proofs.write_labelled.Statement.{statement}
 use Rattle.formatting.proofs.write_labelled.Tie as tie
 
@@ -10,13 +10,13 @@ write-words-requires : tie.Need-write-words-requires
 unfolding labelled
 write-words-requires c κs =
     let start = c.before.before.before in
-    room-first start.args.label.now (decimal start.args.n) start.args.at (length start.args.output.now) start.requires
+    room_first start.args.label.now (decimal start.args.n) start.args.at (length start.args.output.now) start.requires
 
 write-decimal-requires : tie.Need-write-decimal-requires
 unfolding labelled
 write-decimal-requires c κs =
     let start = c.before.before.before.before.before.before.before in
-    room-second c.before.before.before.write-words.ensures (decimal start.args.n) start.requires
+    room_second c.before.before.before.write-words.ensures (decimal start.args.n) start.requires
 
 same_length : tie.Need-same-length
 same_length c = search rules
@@ -25,7 +25,7 @@ returns : tie.Need-returns
 unfolding labelled
 returns c =
     let start = c.before.before.before.before.before.before.before.before.before.before in
-    wrote-both c.before.before.before.before.before.before.write-words.ensures (decimal start.args.n) start.requires c.before.before.write-decimal.ensures
+    wrote_both c.before.before.before.before.before.before.write-words.ensures (decimal start.args.n) start.requires c.before.before.write-decimal.ensures
 
 pub write-labelled-spec : {M : Type 1} → statement M
 write-labelled-spec =

@@ -6,7 +6,7 @@ use borrow.Author.Rules.{rules}
 use lib.ListN.{length, take}
 use lib.Seq.{length-take-le, take_all}
 use Rattle.formatting.specs.Writing.{Wrote}
-use Rattle.formatting.proofs.Wrote.{wrote_none, wrote-length, wrote-next}
+use Rattle.formatting.proofs.Wrote.{wrote_none, wrote_length, wrote_next}
 use Rattle.formatting.proofs.write_words.Statement.{statement}
 use Rattle.formatting.proofs.write_words.Tie as tie
 
@@ -19,7 +19,7 @@ decreases-loop words output₀ at i₀ output i = length words - i
 -- the slice is as long as it was
 as_long : (c : tie.At-loop invariant-loop decreases-loop) → length c.loop.output ≡ length c.before.args.output.now
 as_long c =
-    wrote-length c.loop.invariant.1 (omega (arith, c.before.requires, c.loop.invariant.0, length-take-le c.loop.i c.before.args.words.now c.loop.invariant.0))
+    wrote_length c.loop.invariant.1 (omega (arith, c.before.requires, c.loop.invariant.0, length-take-le c.loop.i c.before.args.words.now c.loop.invariant.0))
 
 loop-holds : tie.Need-loop-init invariant-loop decreases-loop
 loop-holds c =
@@ -45,7 +45,7 @@ loop-again : tie.Need-loop-preserved invariant-loop decreases-loop
 loop-again c =
     let start = c.before.before.before in
     let loop = c.before.before.loop in
-    (omega arith, wrote-next start.args.words.now start.args.at loop.i start.args.output.now loop.output c.before.loop-test.true start.requires loop.invariant.1)
+    (omega arith, wrote_next start.args.words.now start.args.at loop.i start.args.output.now loop.output c.before.loop-test.true start.requires loop.invariant.1)
 
 add-result : tie.Need-overflow-add-result invariant-loop decreases-loop
 add-result c = omega (arith, c.before.before.requires, c.before.loop.invariant.0)

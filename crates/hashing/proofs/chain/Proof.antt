@@ -4,10 +4,10 @@ use mathlib.Core.Path.{◌≡◌, sym, ◌∙◌}
 use native.Mathlib.Omega.{arith}
 use borrow.Author.Rules.{rules}
 use lib.ListN.{length, get_or}
-use Rattle.hashing.proofs.HashTables.{bucket-below, chains-more, buckets-less}
-use Rattle.hashing.specs.HashTables.{spelledAt, Buckets, Chains}
+use Rattle.hashing.proofs.HashTables.{bucket_below, chains_more, buckets_less}
+use Rattle.hashing.specs.HashTables.{spelled_at, Buckets, Chains}
 use Rattle.scanning.proofs.Scans.{none}
-use Rattle.scanning.specs.Scans.{bucketOf}
+use Rattle.scanning.specs.Scans.{bucket_of}
 use Rattle.hashing.proofs.chain.Statement.{statement}
 use Rattle.hashing.proofs.chain.Tie as tie
 
@@ -18,13 +18,13 @@ abbrev decreases-loop : tie.decreases-loop
 decreases-loop table list from count heads₀ links₀ word₀ heads links word = word
 
 -- the bucket of the word that is put in is noted
-bucket-of : (c : tie.In-loop invariant-loop decreases-loop) → get_or c.before.loop.links (c.before.loop.word - 1) 0 ≡ bucketOf (spelledAt c.before.before.args.table.now c.before.before.args.list.now c.before.before.args.from (c.before.loop.word - 1))
+bucket-of : (c : tie.In-loop invariant-loop decreases-loop) → get_or c.before.loop.links (c.before.loop.word - 1) 0 ≡ bucket_of (spelled_at c.before.before.args.table.now c.before.before.args.list.now c.before.before.args.from (c.before.loop.word - 1))
 bucket-of c = c.before.loop.invariant.1.bucket (c.before.loop.word - 1) (omega (arith, c.loop-test.true))
 
 -- it is there
 bucket-inside : (c : tie.In-loop invariant-loop decreases-loop) → get_or c.before.loop.links (c.before.loop.word - 1) 0 < length c.before.loop.heads
 bucket-inside c =
-    omega (arith, bucket-of c, bucket-below (spelledAt c.before.before.args.table.now c.before.before.args.list.now c.before.before.args.from (c.before.loop.word - 1)), c.before.loop.invariant.2.headsLong)
+    omega (arith, bucket-of c, bucket_below (spelled_at c.before.before.args.table.now c.before.before.args.list.now c.before.before.args.from (c.before.loop.word - 1)), c.before.loop.invariant.2.heads_long)
 
 loop-holds : tie.Need-loop-init invariant-loop decreases-loop
 loop-holds c = (omega arith, c.requires.1, c.requires.2)
@@ -42,7 +42,7 @@ cast-bucket : tie.Need-overflow-cast-bucket invariant-loop decreases-loop
 cast-bucket c = omega (arith, c.slice-known.given (c.before.before.loop.word - 1))
 
 mul-links : tie.Need-overflow-mul-links invariant-loop decreases-loop
-mul-links c = omega (arith, bucket-inside c.before, c.before.before.loop.invariant.2.headsLong)
+mul-links c = omega (arith, bucket-inside c.before, c.before.before.loop.invariant.2.heads_long)
 
 slice-read-links : tie.Need-slice-read-links invariant-loop decreases-loop
 slice-read-links c = bucket-inside c.before.before
@@ -60,7 +60,7 @@ cast-heads : tie.Need-overflow-cast-heads invariant-loop decreases-loop
 cast-heads c = omega (arith, c.before.before.before.loop.invariant.0, c.before.before.before.before.requires.0)
 
 mul-heads : tie.Need-overflow-mul-heads invariant-loop decreases-loop
-mul-heads c = omega (arith, bucket-inside c.before.before, c.before.before.before.loop.invariant.2.headsLong)
+mul-heads c = omega (arith, bucket-inside c.before.before, c.before.before.before.loop.invariant.2.heads_long)
 
 slice-write-heads : tie.Need-slice-write-heads invariant-loop decreases-loop
 slice-write-heads c = bucket-inside c.before.before
@@ -76,12 +76,12 @@ loop-again c = let a = c.before.before.before.before.args in
     let loop = c.before.before.before.loop in
     let h : 0 < loop.word = c.before.before.loop-test.true in (
       omega (arith, loop.invariant.0),
-      buckets-less a.table.now a.list.now a.from loop.word loop.links _ loop.invariant.1 h,
-      chains-more a.table.now a.list.now a.from a.count loop.word loop.heads loop.links _ loop.invariant.2 h loop.invariant.0 c.before.before.before.before.requires.0 (bucket-of c.before.before),
+      buckets_less a.table.now a.list.now a.from loop.word loop.links _ loop.invariant.1 h,
+      chains_more a.table.now a.list.now a.from a.count loop.word loop.heads loop.links _ loop.invariant.2 h loop.invariant.0 c.before.before.before.before.requires.0 (bucket-of c.before.before),
     )
 
 same_length : tie.Need-same-length invariant-loop decreases-loop
-same_length c = c.before.loop.invariant.2.headsLong ∙ sym c.before.before.requires.2.headsLong
+same_length c = c.before.loop.invariant.2.heads_long ∙ sym c.before.before.requires.2.heads_long
 
 same-length-2 : tie.Need-same-length-2 invariant-loop decreases-loop
 same-length-2 c = c.before.loop.invariant.1.long ∙ sym c.before.before.requires.1.long

@@ -3,8 +3,8 @@ use Prim.Native.Nat.{◌-◌, ◌<◌}
 use mathlib.Core.Path.{◌≡◌, ap, ◌∙◌}
 use native.Mathlib.Omega.{arith}
 use lib.ListN.{get_or}
-use Rattle.hashing.proofs.HashTables.{bucket-below, next-in-most, next-in-bucket, index-first}
-use Rattle.hashing.specs.HashTables.{nextIn, indexFrom}
+use Rattle.hashing.proofs.HashTables.{bucket_below, next_in_most, next_in_bucket, index_first}
+use Rattle.hashing.specs.HashTables.{next_in, index_from}
 use Rattle.scanning.specs.Scans.{run_at, buckets}
 use Rattle.hashing.proofs.find.Statement.{statement}
 use Rattle.hashing.proofs.find.Tie as tie
@@ -13,18 +13,18 @@ use Rattle.hashing.proofs.find.Tie as tie
 inside_of : (c : tie.After-shared-slice-known6) → c.before.before.before.before.before.before.args.bucket < buckets
 inside_of c =
     let a = c.before.before.before.before.before.before.args in
-    omega (arith, c.before.before.before.before.before.before.requires.3, bucket-below (run_at a.table.now a.text.now a.at))
+    omega (arith, c.before.before.before.before.before.before.requires.3, bucket_below (run_at a.table.now a.text.now a.at))
 
 -- its first word
 first_of : (c : tie.After-shared-slice-known6) → get_or c.before.before.before.before.before.before.args.heads.now c.before.before.before.before.before.before.args.bucket 0
-    ≡ nextIn c.before.before.before.before.before.before.args.table.now c.before.before.before.before.before.before.args.list.now c.before.before.before.before.before.before.args.from c.before.before.before.before.before.before.args.count c.before.before.before.before.before.before.args.bucket 0
+    ≡ next_in c.before.before.before.before.before.before.args.table.now c.before.before.before.before.before.before.args.list.now c.before.before.before.before.before.before.args.from c.before.before.before.before.before.before.args.count c.before.before.before.before.before.before.args.bucket 0
 first_of c = c.before.before.before.before.before.before.requires.1.chained.head c.before.before.before.before.before.before.args.bucket (inside_of c)
 
 mul-word : tie.Need-overflow-mul-word
 mul-word c = omega (arith, inside_of c)
 
 shared-slice-read-word : tie.Need-shared-slice-read-word
-shared-slice-read-word c = omega (arith, inside_of c.before, c.before.before.before.before.before.before.before.requires.1.chained.headsLong)
+shared-slice-read-word c = omega (arith, inside_of c.before, c.before.before.before.before.before.before.before.requires.1.chained.heads_long)
 
 cast-word : tie.Need-overflow-cast-word
 cast-word c = omega (arith, c.shared-slice-known7.given c.before.before.before.before.before.before.before.args.bucket)
@@ -38,15 +38,15 @@ find-from-requires c κs = let start = c.before.before.before.before.before.befo
       start.requires.1.begun,
       start.requires.1.chained.linked,
       start.requires.2,
-      omega (arith, e, next-in-most a.table.now a.list.now a.from a.count a.bucket 0 (omega arith)),
-      λ (h : 0 < get_or a.heads.now a.bucket 0). next-in-bucket a.table.now a.list.now a.from a.count a.bucket 0 (get_or a.heads.now a.bucket 0 - 1) (omega (arith, e, h)) ∙ start.requires.3,
+      omega (arith, e, next_in_most a.table.now a.list.now a.from a.count a.bucket 0 (omega arith)),
+      λ (h : 0 < get_or a.heads.now a.bucket 0). next_in_bucket a.table.now a.list.now a.from a.count a.bucket 0 (get_or a.heads.now a.bucket 0 - 1) (omega (arith, e, h)) ∙ start.requires.3,
     )
 
 returns : tie.Need-returns
 returns c = let start = c.before.before.before.before.before.before.before.before in
     let a = start.args in
     let w = run_at a.table.now a.text.now a.at in
-    c.find-from.ensures ∙ ap (indexFrom a.table.now a.list.now a.from a.count w) (first_of c.before.before) ∙ index-first a.table.now a.list.now a.from w a.bucket a.count start.requires.3
+    c.find-from.ensures ∙ ap (index_from a.table.now a.list.now a.from a.count w) (first_of c.before.before) ∙ index_first a.table.now a.list.now a.from w a.bucket a.count start.requires.3
 
 pub find_spec : {M : Type 1} → statement M
 find_spec =

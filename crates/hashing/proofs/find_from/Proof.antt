@@ -5,23 +5,23 @@ use native.Mathlib.Omega.{arith}
 use borrow.Author.Rules.{rules}
 use lib.ListN.{get_or}
 use Rattle.base.specs.Lists.{same}
-use Rattle.hashing.proofs.HashTables.{chainLeft, chain-left-less, next-in-most, next-in-from, next-in-bucket, index-next, index-hit, index-none}
-use Rattle.hashing.specs.HashTables.{spelledAt, nextIn, indexFrom}
+use Rattle.hashing.proofs.HashTables.{chain_left, chain_left_less, next_in_most, next_in_from, next_in_bucket, index_next, index_hit, index_none}
+use Rattle.hashing.specs.HashTables.{spelled_at, next_in, index_from}
 use Rattle.scanning.proofs.Scans.{none}
-use Rattle.scanning.specs.Scans.{run_at, bucketOf}
+use Rattle.scanning.specs.Scans.{run_at, bucket_of}
 use Rattle.hashing.proofs.find_from.Statement.{statement}
 use Rattle.hashing.proofs.find_from.Tie as tie
 
 abbrev invariant-loop : tie.invariant-loop
-invariant-loop table list from count links starts text at first word₀ word = (word ≤ count) × (indexFrom table list from count (run_at table text at) word ≡ indexFrom table list from count (run_at table text at) first)
-    × (0 < word → bucketOf (spelledAt table list from (word - 1)) ≡ bucketOf (run_at table text at))
+invariant-loop table list from count links starts text at first word₀ word = (word ≤ count) × (index_from table list from count (run_at table text at) word ≡ index_from table list from count (run_at table text at) first)
+    × (0 < word → bucket_of (spelled_at table list from (word - 1)) ≡ bucket_of (run_at table text at))
 
 abbrev decreases-loop : tie.decreases-loop
-decreases-loop table list from count links starts text at first word₀ word = chainLeft count word
+decreases-loop table list from count links starts text at first word₀ word = chain_left count word
 
 -- the word compared agrees with the one looked for exactly if they are spelled alike
 compared : (c : tie.After-same-word invariant-loop decreases-loop) → c.same_word.result
-    ≡ same (run_at c.before.before.before.before.before.before.before.before.before.args.table.now c.before.before.before.before.before.before.before.before.before.args.text.now c.before.before.before.before.before.before.before.before.before.args.at) (spelledAt c.before.before.before.before.before.before.before.before.before.args.table.now c.before.before.before.before.before.before.before.before.before.args.list.now c.before.before.before.before.before.before.before.before.before.args.from (c.before.before.before.loop.word - 1))
+    ≡ same (run_at c.before.before.before.before.before.before.before.before.before.args.table.now c.before.before.before.before.before.before.before.before.before.args.text.now c.before.before.before.before.before.before.before.before.before.args.at) (spelled_at c.before.before.before.before.before.before.before.before.before.args.table.now c.before.before.before.before.before.before.before.before.before.args.list.now c.before.before.before.before.before.before.before.before.before.args.from (c.before.before.before.loop.word - 1))
 compared c =
     let start = c.before.before.before.before.before.before.before.before.before in
     let a = start.args in
@@ -31,12 +31,12 @@ compared c =
 
 -- the next word of its bucket
 linked : (c : tie.In-loop invariant-loop decreases-loop) → get_or c.before.before.before.before.before.before.before.args.links.now (c.before.loop.word - 1) 0
-    ≡ nextIn c.before.before.before.before.before.before.before.args.table.now c.before.before.before.before.before.before.before.args.list.now c.before.before.before.before.before.before.before.args.from c.before.before.before.before.before.before.before.args.count (bucketOf (run_at c.before.before.before.before.before.before.before.args.table.now c.before.before.before.before.before.before.before.args.text.now c.before.before.before.before.before.before.before.args.at)) (suc (c.before.loop.word - 1))
+    ≡ next_in c.before.before.before.before.before.before.before.args.table.now c.before.before.before.before.before.before.before.args.list.now c.before.before.before.before.before.before.before.args.from c.before.before.before.before.before.before.before.args.count (bucket_of (run_at c.before.before.before.before.before.before.before.args.table.now c.before.before.before.before.before.before.before.args.text.now c.before.before.before.before.before.before.before.args.at)) (suc (c.before.loop.word - 1))
 linked c =
     let start = c.before.before.before.before.before.before.before in
     let a = start.args in
     start.requires.3.link (c.before.loop.word - 1) (omega arith) (omega (arith, c.before.loop.invariant.0, c.loop-test.true))
-    ∙ ap (λ (b : ℕ). nextIn a.table.now a.list.now a.from a.count b (suc (c.before.loop.word - 1))) (c.before.loop.invariant.2 c.loop-test.true)
+    ∙ ap (λ (b : ℕ). next_in a.table.now a.list.now a.from a.count b (suc (c.before.loop.word - 1))) (c.before.loop.invariant.2 c.loop-test.true)
 
 loop-holds : tie.Need-loop-init invariant-loop decreases-loop
 loop-holds c = (c.before.before.before.before.before.requires.5, refl, c.before.before.before.before.before.requires.6)
@@ -59,8 +59,8 @@ returns c = let a = c.before.before.before.before.before.before.before.before.be
     let loop = c.before.before.before.before.loop in
     let w = run_at a.table.now a.text.now a.at in
     let e : loop.word ≡ suc (loop.word - 1) = omega (arith, c.before.before.before.loop-test.true) in
-    e ∙ sym (index-hit a.table.now a.list.now a.from w a.count (loop.word - 1) (omega (arith, loop.invariant.0, c.before.before.before.loop-test.true)) (sym (compared c.before) ∙ c.if1.true))
-    ∙ ap (indexFrom a.table.now a.list.now a.from a.count w) (sym e) ∙ loop.invariant.1
+    e ∙ sym (index_hit a.table.now a.list.now a.from w a.count (loop.word - 1) (omega (arith, loop.invariant.0, c.before.before.before.loop-test.true)) (sym (compared c.before) ∙ c.if1.true))
+    ∙ ap (index_from a.table.now a.list.now a.from a.count w) (sym e) ∙ loop.invariant.1
 
 sub_word : tie.Need-overflow-sub-word invariant-loop decreases-loop
 sub_word c = search rules
@@ -79,9 +79,9 @@ loop-less c = let a = c.before.before.before.before.before.before.before.before.
     let loop = c.before.before.before.before.before.loop in
     let w = run_at a.table.now a.text.now a.at in
     let l = linked c.before.before.before.before in
-    chain-left-less a.count loop.word (get_or a.links.now (loop.word - 1) 0) c.before.before.before.before.loop-test.true loop.invariant.0
-    (omega (arith, l, next-in-most a.table.now a.list.now a.from a.count (bucketOf w) (suc (loop.word - 1)) (omega (arith, c.before.before.before.before.loop-test.true, loop.invariant.0))))
-    (λ i e. omega (arith, next-in-from a.table.now a.list.now a.from a.count (bucketOf w) (suc (loop.word - 1)) i (sym l ∙ e)))
+    chain_left_less a.count loop.word (get_or a.links.now (loop.word - 1) 0) c.before.before.before.before.loop-test.true loop.invariant.0
+    (omega (arith, l, next_in_most a.table.now a.list.now a.from a.count (bucket_of w) (suc (loop.word - 1)) (omega (arith, c.before.before.before.before.loop-test.true, loop.invariant.0))))
+    (λ i e. omega (arith, next_in_from a.table.now a.list.now a.from a.count (bucket_of w) (suc (loop.word - 1)) i (sym l ∙ e)))
 
 loop-again : tie.Need-loop-preserved invariant-loop decreases-loop
 loop-again c = let a = c.before.before.before.before.before.before.before.before.before.before.before.args in
@@ -90,18 +90,18 @@ loop-again c = let a = c.before.before.before.before.before.before.before.before
     let e : loop.word ≡ suc (loop.word - 1) = omega (arith, c.before.before.before.before.loop-test.true) in
     let h : loop.word - 1 < a.count = omega (arith, loop.invariant.0) in
     let l = linked c.before.before.before.before in (
-      omega (arith, l, next-in-most a.table.now a.list.now a.from a.count (bucketOf w) (suc (loop.word - 1)) (omega arith)),
-      ap (indexFrom a.table.now a.list.now a.from a.count w) l
-          ∙ index-next a.table.now a.list.now a.from w (bucketOf w) a.count (loop.word - 1) refl h (sym (compared c.before.before) ∙ c.before.if1.false)
-          ∙ ap (indexFrom a.table.now a.list.now a.from a.count w) (sym e) ∙ loop.invariant.1,
-      λ (n : 0 < get_or a.links.now (loop.word - 1) 0). next-in-bucket a.table.now a.list.now a.from a.count (bucketOf w) (suc (loop.word - 1)) (get_or a.links.now (loop.word - 1) 0 - 1) (omega (arith, l, n)),
+      omega (arith, l, next_in_most a.table.now a.list.now a.from a.count (bucket_of w) (suc (loop.word - 1)) (omega arith)),
+      ap (index_from a.table.now a.list.now a.from a.count w) l
+          ∙ index_next a.table.now a.list.now a.from w (bucket_of w) a.count (loop.word - 1) refl h (sym (compared c.before.before) ∙ c.before.if1.false)
+          ∙ ap (index_from a.table.now a.list.now a.from a.count w) (sym e) ∙ loop.invariant.1,
+      λ (n : 0 < get_or a.links.now (loop.word - 1) 0). next_in_bucket a.table.now a.list.now a.from a.count (bucket_of w) (suc (loop.word - 1)) (get_or a.links.now (loop.word - 1) 0 - 1) (omega (arith, l, n)),
     )
 
 returns-2 : tie.Need-returns-2 invariant-loop decreases-loop
 returns-2 c = let a = c.before.before.before.before.before.before.before.args in
     let w = run_at a.table.now a.text.now a.at in
-    sym (index-none a.table.now a.list.now a.from w a.count)
-    ∙ ap (indexFrom a.table.now a.list.now a.from a.count w) (sym (none c.before.loop.word c.loop-test.false)) ∙ c.before.loop.invariant.1
+    sym (index_none a.table.now a.list.now a.from w a.count)
+    ∙ ap (index_from a.table.now a.list.now a.from a.count w) (sym (none c.before.loop.word c.loop-test.false)) ∙ c.before.loop.invariant.1
 
 pub find-from-spec : {M : Type 1} → statement M
 find-from-spec =

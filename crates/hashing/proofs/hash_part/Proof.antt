@@ -3,7 +3,7 @@ use Prim.Native.Nat.{◌<◌}
 use mathlib.Core.Path.{◌∙◌}
 use native.Mathlib.Omega.{arith}
 use borrow.Author.Rules.{rules}
-use Rattle.hashing.proofs.HashTables.{chains-none}
+use Rattle.hashing.proofs.HashTables.{chains_none}
 use Rattle.scanning.specs.Scans.{buckets}
 use Rattle.hashing.proofs.hash_part.Statement.{statement}
 use Rattle.hashing.proofs.hash_part.Tie as tie
@@ -21,7 +21,7 @@ chain-requires c κs = let start = c.before.before.before.before.before.before.b
     let noted = c.before.before.before.before.before.before.note-starts.ensures in (
       start.requires.2,
       noted.1,
-      chains-none a.table.now a.list.now a.from a.count _ _ (cleared.auto.0 ∙ start.requires.4.headsLong) (λ b (h : b < buckets). cleared.ensures b (omega (arith, start.requires.4.headsLong))) noted.1.long,
+      chains_none a.table.now a.list.now a.from a.count _ _ (cleared.auto.0 ∙ start.requires.4.heads_long) (λ b (h : b < buckets). cleared.ensures b (omega (arith, start.requires.4.heads_long))) noted.1.long,
     )
 
 same_length : tie.Need-same-length

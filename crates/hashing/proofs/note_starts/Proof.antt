@@ -4,16 +4,16 @@ use mathlib.Core.Path.{◌≡◌, refl, sym, ap, ◌∙◌}
 use native.Mathlib.Omega.{arith}
 use borrow.Author.Rules.{rules}
 use lib.ListN.{length, drop, length-drop}
-use Rattle.hashing.proofs.HashTables.{bucket-below, starts_none, starts_more, buckets-none, buckets-more, spelled-here}
-use Rattle.hashing.specs.HashTables.{spelledAt, Starts, Buckets}
-use Rattle.scanning.proofs.Scans.{Next, next, left-next, some_left}
-use Rattle.scanning.specs.Scans.{wordsAt, run_at, startFrom, WordBegins, bucketOf}
+use Rattle.hashing.proofs.HashTables.{bucket_below, starts_none, starts_more, buckets_none, buckets_more, spelled_here}
+use Rattle.hashing.specs.HashTables.{spelled_at, Starts, Buckets}
+use Rattle.scanning.proofs.Scans.{Next, next, left_next, some_left}
+use Rattle.scanning.specs.Scans.{words_at, run_at, start_from, WordBegins, bucket_of}
 use Rattle.hashing.proofs.note_starts.Statement.{statement}
 use Rattle.hashing.proofs.note_starts.Tie as tie
 
 abbrev invariant-loop : tie.invariant-loop
 invariant-loop table list from count buckets₀ starts₀ at₀ word₀ buckets starts at word =
-    (word ≤ count) × Starts table list from word starts × Buckets table list from word buckets × WordBegins table list at × (wordsAt table list at ≡ drop word (wordsAt table list from))
+    (word ≤ count) × Starts table list from word starts × Buckets table list from word buckets × WordBegins table list at × (words_at table list at ≡ drop word (words_at table list from))
 
 abbrev decreases-loop : tie.decreases-loop
 decreases-loop table list from count buckets₀ starts₀ at₀ word₀ buckets starts at word = count - word
@@ -24,20 +24,20 @@ next_of c =
     let a = start.args in
     let loop = c.before.loop in
     next a.table.now a.list.now loop.at loop.invariant.3 (some_left a.table.now a.list.now loop.at
-    (omega (arith, ap length loop.invariant.4, length-drop loop.word (wordsAt a.table.now a.list.now a.from), c.loop-test.true, start.requires.3)))
+    (omega (arith, ap length loop.invariant.4, length-drop loop.word (words_at a.table.now a.list.now a.from), c.loop-test.true, start.requires.3)))
 
 -- the word at the position is the next of the part
-spelled-of : (c : tie.In-loop invariant-loop decreases-loop) → spelledAt c.before.before.before.before.before.before.args.table.now c.before.before.before.before.before.before.args.list.now c.before.before.before.before.before.before.args.from c.before.loop.word ≡ run_at c.before.before.before.before.before.before.args.table.now c.before.before.before.before.before.before.args.list.now c.before.loop.at
-spelled-of c = spelled-here _ _ c.before.before.before.before.before.before.args.from c.before.loop.at c.before.loop.word _ c.before.loop.invariant.4 (next_of c).words
+spelled-of : (c : tie.In-loop invariant-loop decreases-loop) → spelled_at c.before.before.before.before.before.before.args.table.now c.before.before.before.before.before.before.args.list.now c.before.before.before.before.before.before.args.from c.before.loop.word ≡ run_at c.before.before.before.before.before.before.args.table.now c.before.before.before.before.before.before.args.list.now c.before.loop.at
+spelled-of c = spelled_here _ _ c.before.before.before.before.before.before.args.from c.before.loop.at c.before.loop.word _ c.before.loop.invariant.4 (next_of c).words
 
 -- the next word begins behind the end of this one
-stepped : (c : tie.After-word-start invariant-loop decreases-loop) → c.word-start.result ≡ startFrom c.before.before.before.before.before.before.before.before.args.table.now c.before.before.before.before.before.before.before.before.args.list.now (c.before.before.before.loop.at + length (run_at c.before.before.before.before.before.before.before.before.args.table.now c.before.before.before.before.before.before.before.before.args.list.now c.before.before.before.loop.at))
-stepped c = c.word-start.ensures ∙ ap (startFrom c.before.before.before.before.before.before.before.before.args.table.now c.before.before.before.before.before.before.before.before.args.list.now) c.before.scan-word.ensures.0
+stepped : (c : tie.After-word-start invariant-loop decreases-loop) → c.word-start.result ≡ start_from c.before.before.before.before.before.before.before.before.args.table.now c.before.before.before.before.before.before.before.before.args.list.now (c.before.before.before.loop.at + length (run_at c.before.before.before.before.before.before.before.before.args.table.now c.before.before.before.before.before.before.before.before.args.list.now c.before.before.before.loop.at))
+stepped c = c.word-start.ensures ∙ ap (start_from c.before.before.before.before.before.before.before.before.args.table.now c.before.before.before.before.before.before.before.before.args.list.now) c.before.scan-word.ensures.0
 
 loop-holds : tie.Need-loop-init invariant-loop decreases-loop
 loop-holds c = let start = c.before.before.before.before in
     let a = start.args in
-    (omega arith, starts_none a.table.now a.list.now a.from a.starts.now start.requires.5, buckets-none a.table.now a.list.now a.from a.buckets.now start.requires.4, start.requires.1, refl)
+    (omega arith, starts_none a.table.now a.list.now a.from a.starts.now start.requires.5, buckets_none a.table.now a.list.now a.from a.buckets.now start.requires.4, start.requires.1, refl)
 
 mul-starts : tie.Need-overflow-mul-starts invariant-loop decreases-loop
 mul-starts c = search rules
@@ -49,7 +49,7 @@ scan-word-requires : tie.Need-scan-word-requires invariant-loop decreases-loop
 scan-word-requires c κs = (c.before.before.before.before.before.before.requires.0, c.before.loop.invariant.3.inside)
 
 cast-buckets : tie.Need-overflow-cast-buckets invariant-loop decreases-loop
-cast-buckets c = omega (arith, c.scan-word.ensures.1, bucket-below (run_at c.before.before.before.before.before.before.before.args.table.now c.before.before.before.before.before.before.before.args.list.now c.before.before.loop.at))
+cast-buckets c = omega (arith, c.scan-word.ensures.1, bucket_below (run_at c.before.before.before.before.before.before.before.args.table.now c.before.before.before.before.before.before.before.args.list.now c.before.before.loop.at))
 
 mul-buckets : tie.Need-overflow-mul-buckets invariant-loop decreases-loop
 mul-buckets c = search rules
@@ -75,9 +75,9 @@ loop-again c = let start = c.before.before.before.before.before.before.before.be
     let h : loop.word < a.count = c.before.before.loop-test.true in (
       omega arith,
       starts_more a.table.now a.list.now a.from loop.word loop.starts loop.at loop.invariant.1 (omega (arith, start.requires.2)) loop.invariant.3.inside (sym e),
-      buckets-more a.table.now a.list.now a.from loop.word loop.buckets c.before.scan-word.result.bucket loop.invariant.2 (omega (arith, start.requires.2)) (c.before.scan-word.ensures.1 ∙ ap bucketOf (sym e)),
+      buckets_more a.table.now a.list.now a.from loop.word loop.buckets c.before.scan-word.result.bucket loop.invariant.2 (omega (arith, start.requires.2)) (c.before.scan-word.ensures.1 ∙ ap bucket_of (sym e)),
       rw (stepped c) n.begun,
-      ap (wordsAt a.table.now a.list.now) (stepped c) ∙ left-next (wordsAt a.table.now a.list.now a.from) _ _ _ loop.word loop.invariant.4 n.words,
+      ap (words_at a.table.now a.list.now) (stepped c) ∙ left_next (words_at a.table.now a.list.now a.from) _ _ _ loop.word loop.invariant.4 n.words,
     )
 
 same_length : tie.Need-same-length invariant-loop decreases-loop

@@ -4,13 +4,13 @@ use mathlib.Core.Path.{refl}
 use native.Mathlib.Omega.{arith}
 use borrow.Author.Rules.{rules}
 use lib.ListN.{length, get_or}
-use Rattle.base.specs.Texts.{maxWords}
-use Rattle.base.proofs.Lists.{all-at}
-use Rattle.base.proofs.Counts.{count-take-rises}
-use Rattle.index.specs.Arrays.{arrays, textIn}
-use Rattle.words.proofs.Parts.{checked-some}
-use Rattle.words.proofs.Positions.{text-most}
-use Rattle.hits.proofs.Searches.{anchor-anchored, anchor-inside}
+use Rattle.base.specs.Texts.{max_words}
+use Rattle.base.proofs.Lists.{all_at}
+use Rattle.base.proofs.Counts.{count_take_rises}
+use Rattle.index.specs.Arrays.{arrays, text_in}
+use Rattle.words.proofs.Parts.{checked_some}
+use Rattle.words.proofs.Positions.{text_most}
+use Rattle.hits.proofs.Searches.{anchor_anchored, anchor_inside}
 use Rattle.hits.proofs.begin.Statement.{statement}
 use Rattle.hits.proofs.begin.Tie as tie
 
@@ -19,13 +19,13 @@ start c = c.before.before.before.before.before.before.before.before
 
 -- the anchor is one of the words, and so a word of the vocabulary
 inside : (c : tie.After-anchor-of) → c.anchor-of.result < length (start c).args.words.now
-inside c = anchor-inside (start c).args.words.now (start c).args.sought c.anchor-of.result (start c).requires.0.some c.anchor-of.ensures
+inside c = anchor_inside (start c).args.words.now (start c).args.sought c.anchor-of.result (start c).requires.0.some c.anchor-of.ensures
 
 below : (c : tie.After-anchor-of) → get_or (start c).args.words.now c.anchor-of.result 0 < (start c).args.shape.vocabulary
-below c = all-at (λ (x : ℕ). x < (start c).args.shape.vocabulary) (start c).args.words.now 0 c.anchor-of.result (start c).requires.0.below (inside c)
+below c = all_at (λ (x : ℕ). x < (start c).args.shape.vocabulary) (start c).args.words.now 0 c.anchor-of.result (start c).requires.0.below (inside c)
 
 text-length-requires : tie.Need-text-length-requires
-text-length-requires c κs = checked-some c.before.before.before.before.before.before.requires.0.ready.checked
+text-length-requires c κs = checked_some c.before.before.before.before.before.before.requires.0.ready.checked
 
 anchor-of-requires : tie.Need-anchor-of-requires
 anchor-of-requires c κs = search rules
@@ -72,14 +72,14 @@ seconded : (w : tie.After-way-of) → let st = start (anchored w) in
 seconded w =
     let o = w.before.before.before.before.before.before in
     let st = start (anchored w) in
-    all-at (λ (x : ℕ). x < st.args.shape.vocabulary) st.args.words.now 0 o.second-of.result.number st.pre.0.below o.second-of.ensures.numbered
+    all_at (λ (x : ℕ). x < st.args.shape.vocabulary) st.args.words.now 0 o.second-of.result.number st.pre.0.below o.second-of.ensures.numbered
 
 -- no text has more words than the limit
-few : (w : tie.After-way-of) → (anchored w).before.text-length.result ≤ maxWords
+few : (w : tie.After-way-of) → (anchored w).before.text-length.result ≤ max_words
 few w =
     let i = anchored w in
     let p = (start i).pre.0.ready.checked in
-    omega (arith, i.before.text-length.ensures.1 _ _ _ _ _ p, text-most p)
+    omega (arith, i.before.text-length.ensures.1 _ _ _ _ _ p, text_most p)
 
 mul-other : tie.Need-overflow-mul-other
 mul-other c = omega (arith, c.before.before.before.before.before.before.second-of.ensures.numbered, (start (anchored c)).requires.0.most)
@@ -107,27 +107,27 @@ returns c =
     let w = c.before.before.before.before.before in
     let i = anchored w in
     let st = start i in
-    let t = textIn st.args.s (arrays st.args.lengths.now st.args.bytes.now st.args.superblocks.now st.args.blocks.now) in
+    let t = text_in st.args.s (arrays st.args.lengths.now st.args.bytes.now st.args.superblocks.now st.args.blocks.now) in
     let ws = st.args.words.now in
     let k = w.before in (
       record {
         sides = record {
           numbered = inside i;
-          anchored = anchor-anchored t ws st.args.sought i.anchor-of.result i.anchor-of.ensures;
+          anchored = anchor_anchored t ws st.args.sought i.anchor-of.result i.anchor-of.ensures;
           seconded = w.before.before.before.before.before.before.second-of.ensures;
         };
         paired = st.pre.1;
         rank_is = refl;
         inside = below i;
         often = w.before.before.before.before.frequency.ensures;
-        way-is = w.Way-of.ensures;
-        track-is = k.track-from.ensures.0;
+        way_is = w.Way-of.ensures;
+        track_is = k.track-from.ensures.0;
         passed = λ p h l.
             omega (
               arith,
               k.track-from.ensures.1,
               k.before.least.ensures,
-              count-take-rises (get_or ws i.anchor-of.result 0) k.before.least.result p t (omega (arith, k.before.least.ensures)),
+              count_take_rises (get_or ws i.anchor-of.result 0) k.before.least.result p t (omega (arith, k.before.least.ensures)),
             );
       },
       refl,

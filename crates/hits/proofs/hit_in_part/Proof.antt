@@ -9,13 +9,13 @@ use borrow.Author.Tests.{eqb-true}
 use lib.Dec.{eqb}
 use lib.ListN.{length, take, drop, get_or, length-take, length-drop}
 use Rattle.base.proofs.Tests.{below_or_not, and_left, and_right}
-use Rattle.index.specs.Arrays.{arrays, textIn}
-use Rattle.directory.specs.Counters.{maxBytes}
-use Rattle.words.proofs.Parts.{checked-bytes}
-use Rattle.words.proofs.Positions.{root-inside}
-use Rattle.pairs.proofs.Pairs.{pair-most}
-use Rattle.matching.specs.Sought.{hitIn}
-use Rattle.matching.proofs.FirstBytes.{first-bytes-length}
+use Rattle.index.specs.Arrays.{arrays, text_in}
+use Rattle.directory.specs.Counters.{max_bytes}
+use Rattle.words.proofs.Parts.{checked_bytes}
+use Rattle.words.proofs.Positions.{root_inside}
+use Rattle.pairs.proofs.Pairs.{pair_most}
+use Rattle.matching.specs.Sought.{hit_in}
+use Rattle.matching.proofs.FirstBytes.{first_bytes_length}
 use Rattle.hits.proofs.Searches.{no_hit}
 use Rattle.hits.proofs.hit_in_part.Statement.{statement}
 use Rattle.hits.proofs.hit_in_part.Tie as tie
@@ -23,23 +23,23 @@ use Rattle.hits.proofs.hit_in_part.Tie as tie
 -- no hit has its anchor before the position
 abbrev invariant-loop : tie.invariant-loop
 invariant-loop s shape lengths bytes superblocks blocks starts documents firsts words sought anchor from to x number y here there same at₀ at =
-    (from ≤ at) × ((p : ℕ) → from ≤ p + anchor → p + anchor < at → hitIn documents (textIn s (arrays lengths bytes superblocks blocks)) words sought p ≡ false)
+    (from ≤ at) × ((p : ℕ) → from ≤ p + anchor → p + anchor < at → hit_in documents (text_in s (arrays lengths bytes superblocks blocks)) words sought p ≡ false)
 
 abbrev decreases-loop : tie.decreases-loop
 decreases-loop s shape lengths bytes superblocks blocks starts documents firsts words sought anchor from to x number y here there same at₀ at = to - at
 
 abbrev text : tie.Start invariant-loop decreases-loop → List ℕ
-text st = textIn st.args.s (arrays st.args.lengths.now st.args.bytes.now st.args.superblocks.now st.args.blocks.now)
+text st = text_in st.args.s (arrays st.args.lengths.now st.args.bytes.now st.args.superblocks.now st.args.blocks.now)
 
 abbrev test : tie.Start invariant-loop decreases-loop → ℕ → Bool
-test st = hitIn st.args.documents.now (text st) st.args.words.now st.args.sought
+test st = hit_in st.args.documents.now (text st) st.args.words.now st.args.sought
 
 abbrev start : tie.At-loop invariant-loop decreases-loop → tie.Start invariant-loop decreases-loop
 start c = c.before.before.before.before.before.before.before.before.before.before.before
 
 -- there are as many first bytes as words
 firsts-length : (st : tie.Start invariant-loop decreases-loop) → length st.args.firsts.now ≡ length st.args.words.now
-firsts-length st = ap length st.requires.0.firsts-are ∙ first-bytes-length st.args.s st.args.words.now
+firsts-length st = ap length st.requires.0.firsts_are ∙ first_bytes_length st.args.s st.args.words.now
 
 shared-slice-read-x : tie.Need-shared-slice-read-x invariant-loop decreases-loop
 shared-slice-read-x c =
@@ -72,13 +72,13 @@ module _ (c : tie.In-loop invariant-loop decreases-loop) where
   back = omega (arith, st.pre.3.back, after)
 
   inside : st.args.to ≤ length st.args.bytes.now
-  inside = omega (arith, st.pre.3.inside, root-inside st.pre.0.searchable.ready.checked)
+  inside = omega (arith, st.pre.3.inside, root_inside st.pre.0.searchable.ready.checked)
 
   beside : st.args.to - st.args.second.here + st.args.second.there ≤ length st.args.bytes.now
-  beside = omega (arith, back, st.pre.3.beside (omega (arith, after)), root-inside st.pre.0.searchable.ready.checked)
+  beside = omega (arith, back, st.pre.3.beside (omega (arith, after)), root_inside st.pre.0.searchable.ready.checked)
 
-  few : length st.args.bytes.now ≤ maxBytes
-  few = checked-bytes st.pre.0.searchable.ready.checked
+  few : length st.args.bytes.now ≤ max_bytes
+  few = checked_bytes st.pre.0.searchable.ready.checked
 
   -- the two parts that are compared
   abbrev one : List ℕ
@@ -143,7 +143,7 @@ step c =
     let i = c.before.before.before in
     let x = get_or (st i).args.firsts.now (st i).args.anchor 0 in
     let y = get_or (st i).args.firsts.now (st i).args.second.number 0 in
-    omega (arith, c.next-pair.ensures, pair-most x y (one i) (other i), one-length i)
+    omega (arith, c.next-pair.ensures, pair_most x y (one i) (other i), one-length i)
 
 -- inside it where it is not at its end
 within : (at r to : ℕ) → r ≤ to - at → at < to → (at + r ≡ to → ⊥) → at + r < to

@@ -10,19 +10,19 @@ use borrow.Author.Rules.{rules}
 use lib.ListN.{length, get_or}
 use Rattle.base.specs.Lists.{count_of}
 use Rattle.tree.specs.declared.Place.{Place}
-use Rattle.index.specs.Arrays.{arrays, textIn}
-use Rattle.words.proofs.Parts.{checked-some}
-use Rattle.words.proofs.Positions.{text-most}
+use Rattle.index.specs.Arrays.{arrays, text_in}
+use Rattle.words.proofs.Parts.{checked_some}
+use Rattle.words.proofs.Positions.{text_most}
 use Rattle.ways.specs.Ways.{TrackOf}
 use Rattle.phrases.specs.Anchors.{Anchored}
-use Rattle.matching.specs.Sought.{hitIn}
+use Rattle.matching.specs.Sought.{hit_in}
 use Rattle.hits.specs.declared.Hit.{Hit}
 use Rattle.hits.specs.declared.Hit.TheVariants.{At, Nowhere}
-use Rattle.hits.specs.Hits.{leastHit}
+use Rattle.hits.specs.Hits.{least_hit}
 use Rattle.hits.specs.Searches.{LeastIn}
-use Rattle.hits.proofs.Least.{hit-after}
-use Rattle.hits.proofs.Searches.{anchored-inside, second_back, second-there, reaches}
-use Rattle.hits.proofs.Sweeping.{Swept, swept-begin, swept-hit, swept-over, swept_all, swept-next}
+use Rattle.hits.proofs.Least.{hit_after}
+use Rattle.hits.proofs.Searches.{anchored_inside, second_back, second_there, reaches}
+use Rattle.hits.proofs.Sweeping.{Swept, swept_begin, swept_hit, swept_over, swept_all, swept_next}
 use Rattle.hits.proofs.next_hit.Statement.{statement}
 use Rattle.hits.proofs.next_hit.Tie as tie
 
@@ -30,10 +30,10 @@ use Rattle.hits.proofs.next_hit.Tie as tie
 abbrev invariant-loop : tie.invariant-loop
 invariant-loop s shape lengths bytes superblocks blocks starts documents firsts words sought search end anchor second rank way exact n high from at₀ until₀ track₀ at until track =
     Swept
-    (textIn s (arrays lengths bytes superblocks blocks))
+    (text_in s (arrays lengths bytes superblocks blocks))
     search.rank
     search.anchor
-    (hitIn documents (textIn s (arrays lengths bytes superblocks blocks)) words sought)
+    (hit_in documents (text_in s (arrays lengths bytes superblocks blocks)) words sought)
     search.second.here
     search.place.0
     at
@@ -48,29 +48,29 @@ decreases-loop s shape lengths bytes superblocks blocks starts documents firsts 
 -- the text, the test of its places, and what is known of the places at which it holds
 module _ (st : tie.Start invariant-loop decreases-loop) where
   abbrev text : List ℕ
-  text = textIn st.args.s (arrays st.args.lengths.now st.args.bytes.now st.args.superblocks.now st.args.blocks.now)
+  text = text_in st.args.s (arrays st.args.lengths.now st.args.bytes.now st.args.superblocks.now st.args.blocks.now)
 
   abbrev test : ℕ → Bool
-  test = hitIn st.args.documents.now text st.args.words.now st.args.sought
+  test = hit_in st.args.documents.now text st.args.words.now st.args.sought
 
   anchored : Anchored text st.args.search.rank st.args.search.anchor test
   anchored =
       rw st.pre.1.rank_is
-      (anchored-inside st.args.documents.now text st.args.words.now st.args.sought (get_or st.args.words.now st.args.search.anchor 0) st.args.search.anchor st.pre.1.sides.anchored)
+      (anchored_inside st.args.documents.now text st.args.words.now st.args.sought (get_or st.args.words.now st.args.search.anchor 0) st.args.search.anchor st.pre.1.sides.anchored)
 
   back : (q : ℕ) → test q ≡ true → st.args.search.second.here ≤ q + st.args.search.anchor
   back q e = second_back st.pre.0 st.args.documents.now st.pre.1.sides q e
 
   beside : (q : ℕ) → test q ≡ true → q + st.args.search.anchor + st.args.search.second.there < length text + st.args.search.second.here
-  beside q e = second-there st.pre.0 st.args.documents.now st.pre.1.sides q e
+  beside q e = second_there st.pre.0 st.args.documents.now st.pre.1.sides q e
 
 text-length-requires : tie.Need-text-length-requires invariant-loop decreases-loop
-text-length-requires c κs = checked-some c.before.before.before.before.before.before.before.before.before.before.requires.0.searchable.ready.checked
+text-length-requires c κs = checked_some c.before.before.before.before.before.before.before.before.before.before.requires.0.searchable.ready.checked
 
 last-below-requires : tie.Need-last-below-requires invariant-loop decreases-loop
 last-below-requires c κs =
     let st = c.before.before.before.before.before.before.before.before.before.before.before in (
-      omega (arith, c.text-length.ensures.1 _ _ _ _ _ st.requires.0.searchable.ready.checked, text-most st.requires.0.searchable.ready.checked),
+      omega (arith, c.text-length.ensures.1 _ _ _ _ _ st.requires.0.searchable.ready.checked, text_most st.requires.0.searchable.ready.checked),
       omega (arith, st.requires.1.sides.numbered, st.requires.0.searchable.most),
       st.requires.1.sides.seconded.near,
     )
@@ -82,7 +82,7 @@ add-from : tie.Need-overflow-add-from invariant-loop decreases-loop
 add-from c =
     let st = c.before.before.before.before.before.before.before.before.before.before.before.before.before in
     let n = c.before.before.text-length.ensures.1 _ _ _ _ _ st.requires.0.searchable.ready.checked in
-    omega (arith, c.least.ensures, n, text-most st.requires.0.searchable.ready.checked, st.requires.1.sides.numbered, st.requires.0.searchable.most)
+    omega (arith, c.least.ensures, n, text_most st.requires.0.searchable.ready.checked, st.requires.1.sides.numbered, st.requires.0.searchable.most)
 
 most-requires : tie.Need-most-requires invariant-loop decreases-loop
 most-requires c κs = search rules
@@ -94,10 +94,10 @@ loop-holds c =
     let n = c.before.before.before.before.text-length.ensures.1 _ _ _ _ _ st.requires.0.searchable.ready.checked in
     let from : c.before.before.least.result ≡ min x.place.0 (length (text st)) = rw (← n) c.before.before.least.ensures in
     let m = c.before.most.ensures in (
-      swept-begin (text st) x.rank x.anchor (test st) (anchored st) x.second.here x.second.there (back st) (beside st) x.place.0 st.args.end.0
+      swept_begin (text st) x.rank x.anchor (test st) (anchored st) x.second.here x.second.there (back st) (beside st) x.place.0 st.args.end.0
           c.before.most.result x.until x.track.ordinal
           (rw (← from) m.0) m.1 (⊎_elim (λ e. inl (rw (← from) e)) (λ e. inr e) m.2) st.requires.1.passed,
-      st.requires.1.track-is,
+      st.requires.1.track_is,
     )
 
 least-requires-2 : tie.Need-least-requires-2 invariant-loop decreases-loop
@@ -156,20 +156,20 @@ module _ (c : tie.After-hit-in-part invariant-loop decreases-loop) where
       subst (λ (h : Hit). LeastIn (test (st at-loop)) (st at-loop).args.search.anchor at-loop.loop.at c.before.least2.result h) e c.hit-in-part.ensures
 
   -- a hit is the least, and none the least where the part reaches far enough or no word of the anchor is left
-  found : (q : Place) → c.hit-in-part.result ≡ At q → leastHit (test (st at-loop)) (st at-loop).args.search.place.0 (st at-loop).args.end.0 ≡ At q
+  found : (q : Place) → c.hit-in-part.result ≡ At q → least_hit (test (st at-loop)) (st at-loop).args.search.place.0 (st at-loop).args.end.0 ≡ At q
   found q e =
       let x = (st at-loop).args.search in
-      swept-hit (text (st at-loop)) x.rank x.anchor (test (st at-loop)) (anchored (st at-loop)) x.second.here x.second.there (back (st at-loop)) (beside (st at-loop)) x.place.0 (st at-loop).args.end.0
+      swept_hit (text (st at-loop)) x.rank x.anchor (test (st at-loop)) (anchored (st at-loop)) x.second.here x.second.there (back (st at-loop)) (beside (st at-loop)) x.place.0 (st at-loop).args.end.0
       (high at-loop) (high-inside at-loop) (high-short at-loop) (high-covers at-loop) at-loop.loop.inv.0 c.before.least2.result c.before.least2.ensures q (known e)
 
-  over : c.hit-in-part.result ≡ Nowhere → high at-loop ≤ at-loop.loop.until → leastHit (test (st at-loop)) (st at-loop).args.search.place.0 (st at-loop).args.end.0 ≡ Nowhere
+  over : c.hit-in-part.result ≡ Nowhere → high at-loop ≤ at-loop.loop.until → least_hit (test (st at-loop)) (st at-loop).args.search.place.0 (st at-loop).args.end.0 ≡ Nowhere
   over e far =
       let x = (st at-loop).args.search in
-      swept-over (text (st at-loop)) x.rank x.anchor (test (st at-loop)) (anchored (st at-loop)) x.second.here x.second.there (back (st at-loop)) (beside (st at-loop)) x.place.0 (st at-loop).args.end.0
+      swept_over (text (st at-loop)) x.rank x.anchor (test (st at-loop)) (anchored (st at-loop)) x.second.here x.second.there (back (st at-loop)) (beside (st at-loop)) x.place.0 (st at-loop).args.end.0
       (high at-loop) (high-inside at-loop) (high-short at-loop) (high-covers at-loop) at-loop.loop.inv.0 c.before.least2.result c.before.least2.ensures (known e) far
 
   all : c.hit-in-part.result ≡ Nowhere → at-loop.loop.until < high at-loop → count_of (st at-loop).args.search.rank (text (st at-loop)) ≤ at-loop.loop.track.ordinal
-      → leastHit (test (st at-loop)) (st at-loop).args.search.place.0 (st at-loop).args.end.0 ≡ Nowhere
+      → least_hit (test (st at-loop)) (st at-loop).args.search.place.0 (st at-loop).args.end.0 ≡ Nowhere
   all e near left =
       let x = (st at-loop).args.search in
       swept_all (text (st at-loop)) x.rank x.anchor (test (st at-loop)) (anchored (st at-loop)) x.second.here x.second.there (back (st at-loop)) (beside (st at-loop)) x.place.0 (st at-loop).args.end.0
@@ -182,7 +182,7 @@ add-t32 : tie.Need-overflow-add-t32 invariant-loop decreases-loop
 add-t32 c =
     let h = c.before.before.before.before in
     let l = at-loop h in
-    omega (arith, (known h c.before.before.hit.given.1).1, h.before.least2.ensures, high-inside l, text-most (st l).pre.0.searchable.ready.checked)
+    omega (arith, (known h c.before.before.hit.given.1).1, h.before.least2.ensures, high-inside l, text_most (st l).pre.0.searchable.ready.checked)
 
 moved-to-requires : tie.Need-moved-to-requires invariant-loop decreases-loop
 moved-to-requires c κs = search rules
@@ -195,7 +195,7 @@ returns c =
     let given = c.before.before.before.hit.given in
     let least = found h given.0.0 given.1 in
     reaches x (st l).pre.1 _ _ _ _ _ _ c.moved_to.ensures (sym least) l.loop.inv.1
-    (λ p g f. l.loop.inv.0.passed p (omega (arith, hit-after (test (st l)) x.place.0 (st l).args.end.0 given.0.0 least)) f)
+    (λ p g f. l.loop.inv.0.passed p (omega (arith, hit_after (test (st l)) x.place.0 (st l).args.end.0 given.0.0 least)) f)
     refl
 
 enum_told : tie.Need-enum-told invariant-loop decreases-loop
@@ -231,7 +231,7 @@ returns-3 c =
 piece-along-requires : tie.Need-piece-along-requires invariant-loop decreases-loop
 piece-along-requires c κs =
     let l = at-loop c.before.before.before.before.before.before in
-    ((st l).pre.0.searchable.ready, (st l).pre.1.inside, (st l).pre.1.way-is, l.loop.inv.1, omega (arith, c.if2.false, (st l).pre.1.often))
+    ((st l).pre.0.searchable.ready, (st l).pre.1.inside, (st l).pre.1.way_is, l.loop.inv.1, omega (arith, c.if2.false, (st l).pre.1.often))
 
 most-requires-2 : tie.Need-most-requires-2 invariant-loop decreases-loop
 most-requires-2 c κs = search rules
@@ -256,7 +256,7 @@ loop-again c =
     let one = c.before.before.most2.ensures in
     let two = c.before.most3.ensures in (
       rw n.ensures.3
-          (swept-next (text (st l)) x.rank x.anchor (test (st l)) (anchored (st l)) x.second.here x.second.there (back (st l)) (beside (st l)) x.place.0 (st l).args.end.0
+          (swept_next (text (st l)) x.rank x.anchor (test (st l)) (anchored (st l)) x.second.here x.second.there (back (st l)) (beside (st l)) x.place.0 (st l).args.end.0
           (high l) (high-inside l) (high-short l) (high-covers l) l.loop.inv.0 h.before.least2.result h.before.least2.ensures (known h t.enum_told.given.1) (omega (arith, o.if1.false))
           (omega (arith, e.if2.false, (st l).pre.1.often)) n.result.from n.result.to c.before.most3.result n.ensures.0 n.ensures.1
           (omega (arith, one.0, two.0))

@@ -2,7 +2,7 @@
 use mathlib.Core.Path.{sym, ◌∙◌}
 use borrow.Author.Rules.{rules}
 use borrow.Author.Tests.{not-true, not-false}
-use Rattle.lent_tables.proofs.Calls.{makes-refused-by, makes-as}
+use Rattle.lent_tables.proofs.Calls.{makes_refused_by, makes_as}
 use Rattle.lent_tables.proofs.make_list_with.Statement.{statement}
 use Rattle.lent_tables.proofs.make_list_with.Tie as tie
 
@@ -18,7 +18,7 @@ without-list-requires c κs = search rules
 returns : tie.Need-returns
 returns c = let a = c.before.before.before.before.before.before.before.before.args in
     let w = c.without-list.ensures in
-    makes-refused-by a.table.now (sym c.before.before.before.is-table.ensures ∙ not-true c.before.before.before.is-table.result c.before.before.if1.true) a.text.now a.list.now a.ranks.now
+    makes_refused_by a.table.now (sym c.before.before.before.is-table.ensures ∙ not-true c.before.before.before.is-table.result c.before.before.if1.true) a.text.now a.list.now a.ranks.now
     c.without-list.result (w.0 ∙ c.before.refused.ensures) w.1 w.2
 
 make-list-by-requires : tie.Need-make-list-by-requires
@@ -33,7 +33,7 @@ same-length-2 c = search rules
 returns-2 : tie.Need-returns-2
 returns-2 c = let a = c.before.before.before.before.before.before.before.before.before.before.before.before.before.args in
     let e = c.before.before.before.before.make-list-by.ensures in
-    let r = makes-as a.table.now (sym c.before.before.before.before.before.before.before.before.is-table.ensures ∙ not-false c.before.before.before.before.before.before.before.before.is-table.result c.before.before.before.before.before.before.before.if1.false) a.text.now a.list.now a.ranks.now in
+    let r = makes_as a.table.now (sym c.before.before.before.before.before.before.before.before.is-table.ensures ∙ not-false c.before.before.before.before.before.before.before.before.is-table.result c.before.before.before.before.before.before.before.if1.false) a.text.now a.list.now a.ranks.now in
     (e.0 ∙ sym r.returned, e.1 ∙ sym r.list, e.2 ∙ sym r.ranks)
 
 pub make-list-with-spec : {M : Type 1} → statement M

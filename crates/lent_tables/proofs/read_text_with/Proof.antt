@@ -2,7 +2,7 @@
 use mathlib.Core.Path.{sym, ◌∙◌}
 use borrow.Author.Rules.{rules}
 use borrow.Author.Tests.{not-true, not-false}
-use Rattle.lent_tables.proofs.Calls.{reads-refused, reads_as}
+use Rattle.lent_tables.proofs.Calls.{reads_refused_lem, reads_as}
 use Rattle.lent_tables.proofs.read_text_with.Statement.{statement}
 use Rattle.lent_tables.proofs.read_text_with.Tie as tie
 
@@ -14,7 +14,7 @@ refused-requires c κs = search rules
 
 returns : tie.Need-returns
 returns c = let a = c.before.before.before.before.before.before.before.args in
-    let r = reads-refused a.table.now (sym c.before.before.is-table.ensures ∙ not-true c.before.before.is-table.result c.before.if1.true) a.list.now a.text.now a.ranks.now in
+    let r = reads_refused_lem a.table.now (sym c.before.before.is-table.ensures ∙ not-true c.before.before.is-table.result c.before.if1.true) a.list.now a.text.now a.ranks.now in
     (c.refused.ensures ∙ sym r.0, sym r.1)
 
 read-text-by-requires : tie.Need-read-text-by-requires

@@ -4,7 +4,7 @@ use mathlib.Core.Path.{sym, ◌∙◌}
 use native.Mathlib.Omega.{arith}
 use borrow.Author.Rules.{rules}
 use borrow.Author.Tests.{not-true, not-false}
-use Rattle.lexicon.proofs.Entries.{Seen, seen_first, seen_next, seen_all, seen-broken}
+use Rattle.lexicon.proofs.Entries.{Seen, seen_first, seen_next, seen_all, seen_broken}
 use Rattle.lexicon.proofs.entries_pass.Statement.{statement}
 use Rattle.lexicon.proofs.entries_pass.Tie as tie
 
@@ -25,7 +25,7 @@ is-entry-requires c κs = search rules
 
 returns : tie.Need-returns invariant-loop decreases-loop
 returns c =
-    sym (seen-broken c.before.before.before.before.before.before.args.table.now c.before.before.before.before.loop.i (omega (arith, c.before.before.before.loop-test.true, c.before.before.before.before.before.before.requires)) (sym c.before.is-entry.ensures ∙ not-true c.before.is-entry.result c.if1.true))
+    sym (seen_broken c.before.before.before.before.before.before.args.table.now c.before.before.before.before.loop.i (omega (arith, c.before.before.before.loop-test.true, c.before.before.before.before.before.before.requires)) (sym c.before.is-entry.ensures ∙ not-true c.before.is-entry.result c.if1.true))
 
 add-i : tie.Need-overflow-add-i invariant-loop decreases-loop
 add-i c = search rules

@@ -1,12 +1,12 @@
 -- `lexicon::letter_table` meets its contract: the constant is the letter table, by one computed test. Assumes nothing.
 use mathlib.Core.Path.{refl}
 use Rattle.base.specs.Texts.{outside}
-use Rattle.lexicon.specs.Letters.{within, letterOf, letters}
+use Rattle.lexicon.specs.Letters.{within, letter_of, letters}
 use Rattle.lexicon.proofs.letter_table.Statement.{statement}
 use Rattle.lexicon.proofs.letter_table.Tie as tie
 
 returns : tie.Need-returns
-unfolding within outside letterOf letters
+unfolding within outside letter_of letters
 returns c = refl
 
 pub letter-table-spec : {M : Type 1} → statement M

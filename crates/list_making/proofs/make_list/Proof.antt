@@ -1,8 +1,8 @@
 -- `list_making::make_list` meets its contract: the letter table keeps the rules. Assumes nothing.
 use borrow.Author.Rules.{rules}
 use Rattle.base.specs.Texts.{outside}
-use Rattle.lexicon.proofs.Tables.{letters-rule}
-use Rattle.lexicon.specs.Letters.{within, letterOf, letters}
+use Rattle.lexicon.proofs.Tables.{letters_rule}
+use Rattle.lexicon.specs.Letters.{within, letter_of, letters}
 use Rattle.list_making.proofs.make_list.Statement.{statement}
 use Rattle.list_making.proofs.make_list.Tie as tie
 
@@ -10,8 +10,8 @@ slice-aggregate-make-list-by : tie.Need-slice-aggregate-make-list-by
 slice-aggregate-make-list-by c = search rules
 
 make-list-by-requires : tie.Need-make-list-by-requires
-unfolding within outside letterOf letters
-make-list-by-requires c κs = letters-rule
+unfolding within outside letter_of letters
+make-list-by-requires c κs = letters_rule
 
 same_length : tie.Need-same-length
 same_length c = search rules
@@ -20,7 +20,7 @@ same-length-2 : tie.Need-same-length-2
 same-length-2 c = search rules
 
 returns : tie.Need-returns
-unfolding within outside letterOf letters
+unfolding within outside letter_of letters
 returns c = c.before.before.before.before.make-list-by.ensures
 
 pub make-list-spec : {M : Type 1} → statement M

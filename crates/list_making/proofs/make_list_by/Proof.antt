@@ -3,8 +3,8 @@ use mathlib.Core.Path.{refl, ◌∙◌}
 use native.Mathlib.Omega.{arith}
 use borrow.Author.Rules.{rules}
 use Rattle.base.specs.Answers.{refused}
-use Rattle.base.specs.Refusals.{refusalWords, refusalListMaking}
-use Rattle.list_calls.proofs.Calls.{too-many-words, too_long, list-refused}
+use Rattle.base.specs.Refusals.{refusal_words, refusal_list_making}
+use Rattle.list_calls.proofs.Calls.{too_many_words_lem, too_long, list_refused}
 use Rattle.list_making.proofs.make_list_by.Statement.{statement}
 use Rattle.list_making.proofs.make_list_by.Tie as tie
 
@@ -21,8 +21,8 @@ returns : tie.Need-returns
 returns c = let start = c.before.before.before.before.before.before.before.before.before in
     let a = start.args in
     let w = c.without-list.ensures in
-    list-refused a.table.now a.text.now a.list.now a.ranks.now (refused refusalWords) refl
-    (too-many-words a.table.now a.text.now a.list.now a.ranks.now (omega (arith, c.before.before.before.text-size.ensures, c.before.before.if2.true)))
+    list_refused a.table.now a.text.now a.list.now a.ranks.now (refused refusal_words) refl
+    (too_many_words_lem a.table.now a.text.now a.list.now a.ranks.now (omega (arith, c.before.before.before.text-size.ensures, c.before.before.if2.true)))
     c.without-list.result (w.0 ∙ c.before.refused.ensures) w.1 w.2
 
 refused-requires-2 : tie.Need-refused-requires-2
@@ -35,7 +35,7 @@ returns-2 : tie.Need-returns-2
 returns-2 c = let start = c.before.before.before.before.before.before.before.before.before in
     let a = start.args in
     let w = c.without-list2.ensures in
-    list-refused a.table.now a.text.now a.list.now a.ranks.now (refused refusalListMaking) refl
+    list_refused a.table.now a.text.now a.list.now a.ranks.now (refused refusal_list_making) refl
     (too_long a.table.now a.text.now a.list.now a.ranks.now (omega (arith, c.before.before.before.text-size.ensures, c.before.before.if2.false)) (omega (arith, c.before.before.before.before.if1.true)))
     c.without-list2.result (w.0 ∙ c.before.refused2.ensures) w.1 w.2
 

@@ -2,7 +2,7 @@
 use mathlib.Core.Path.{refl}
 use native.Mathlib.Nat.{le_refl}
 use borrow.Author.Rules.{rules}
-use Rattle.list_tables.proofs.Noted.{zeros-clear}
+use Rattle.list_tables.proofs.Noted.{zeros_clear}
 use Rattle.list_making.proofs.make_of_short.Statement.{statement}
 use Rattle.list_making.proofs.make_of_short.Tie as tie
 
@@ -26,7 +26,7 @@ make-in-tables-requires c κs = let start = c.before.before.before.before.before
     let h = le_refl 32768 in (
       start.requires.0,
       start.requires.1,
-      record { headsLong = refl; headsClear = zeros-clear 65536; linksLong = h; startsLong = h; firstsLong = h; countsLong = h; countsClear = zeros-clear 32768 },
+      record { heads_long = refl; heads_clear = zeros_clear 65536; links_long = h; starts_long = h; firsts_long = h; counts_long = h; counts_clear = zeros_clear 32768 },
     )
 
 same_length : tie.Need-same-length

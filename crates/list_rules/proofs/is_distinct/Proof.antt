@@ -6,19 +6,19 @@ use native.Mathlib.Omega.{arith}
 use borrow.Author.Rules.{rules}
 use borrow.Author.Tests.{not-true, not-false}
 use lib.ListN.{length, drop, get_or}
-use Rattle.hashing.specs.HashTables.{maxPart, Room}
+use Rattle.hashing.specs.HashTables.{max_part, Room}
 use Rattle.lexicon.proofs.Members.{distinct_of}
-use Rattle.lexicon.specs.Reading.{textWords, spellings}
-use Rattle.list_rules.proofs.Repeats.{unrepeated-more, repeated, unrepeated-which}
+use Rattle.lexicon.specs.Reading.{text_words, spellings}
+use Rattle.list_rules.proofs.Repeats.{unrepeated_more, repeated, unrepeated_which}
 use Rattle.scanning.proofs.Scans.{begins}
-use Rattle.scanning.specs.Scans.{wordsAt, WordBegins}
-use Rattle.hashing.proofs.Parts.{words_left, words-before-first, words-before-more}
+use Rattle.scanning.specs.Scans.{words_at, WordBegins}
+use Rattle.hashing.proofs.Parts.{words_left, words_before_first, words_before_more}
 use Rattle.list_rules.proofs.is_distinct.Statement.{statement}
 use Rattle.list_rules.proofs.is_distinct.Tie as tie
 
 abbrev invariant-loop : tie.invariant-loop
 invariant-loop table list words heads₀ links₀ starts₀ from₀ first₀ heads links starts from first =
-    (first ≤ words) × WordBegins table list from × (wordsAt table list from ≡ drop first (textWords table list))
+    (first ≤ words) × WordBegins table list from × (words_at table list from ≡ drop first (text_words table list))
     × ((i j : ℕ) → i < first → i < j → j < length (spellings table list) → get_or (spellings table list) i [] ≡ get_or (spellings table list) j [] → ⊥) × Room heads links starts
 
 abbrev decreases-loop : tie.decreases-loop
@@ -26,8 +26,8 @@ decreases-loop table list words heads₀ links₀ starts₀ from₀ first₀ hea
 
 -- the part is inside the list
 inside_of : (c : tie.After-least invariant-loop decreases-loop)
-    → (c.least.result ≤ maxPart) × (c.least.result ≤ c.before.before.before.before.before.before.before.before.before.args.words - c.before.before.loop.first)
-    × (length (wordsAt c.before.before.before.before.before.before.before.before.before.args.table.now c.before.before.before.before.before.before.before.before.before.args.list.now c.before.before.loop.from) ≡ c.before.before.before.before.before.before.before.before.before.args.words - c.before.before.loop.first)
+    → (c.least.result ≤ max_part) × (c.least.result ≤ c.before.before.before.before.before.before.before.before.before.args.words - c.before.before.loop.first)
+    × (length (words_at c.before.before.before.before.before.before.before.before.before.args.table.now c.before.before.before.before.before.before.before.before.before.args.list.now c.before.before.loop.from) ≡ c.before.before.before.before.before.before.before.before.before.args.words - c.before.before.loop.first)
     × (c.before.before.loop.first + (c.before.before.before.before.before.before.before.before.before.args.words - c.before.before.loop.first) ≡ length (spellings c.before.before.before.before.before.before.before.before.before.args.table.now c.before.before.before.before.before.before.before.before.before.args.list.now))
 inside_of c =
     let start = c.before.before.before.before.before.before.before.before.before in
@@ -44,7 +44,7 @@ loop-holds : tie.Need-loop-init invariant-loop decreases-loop
 loop-holds c = let a = c.before.before.before.before.before.before.args in (
   omega arith,
   rw c.word-start.ensures (begins a.table.now a.list.now 0 (omega arith)),
-  rw c.word-start.ensures (words-before-first a.table.now a.list.now),
+  rw c.word-start.ensures (words_before_first a.table.now a.list.now),
   λ i j (h : i < 0) l m q. omega arith,
   c.before.before.before.before.before.before.requires.2,
 )
@@ -72,7 +72,7 @@ returns c = let a = c.before.before.before.before.before.before.before.before.be
     let loop = c.before.before.before.before.before.before.before.before.before.before.before.before.before.before.before.before.before.loop in
     let count = c.before.before.before.before.before.before.before.before.before.before.before.before.before.before.before.least.result in
     let i = inside_of c.before.before.before.before.before.before.before.before.before.before.before.before.before.before.before in
-    let w = unrepeated-which a.table.now a.list.now loop.from count (a.words - loop.first) (sym c.before.is-part-unrepeated.ensures ∙ not-true c.before.is-part-unrepeated.result c.if1.true) in
+    let w = unrepeated_which a.table.now a.list.now loop.from count (a.words - loop.first) (sym c.before.is-part-unrepeated.ensures ∙ not-true c.before.is-part-unrepeated.result c.if1.true) in
     sym (repeated a.table.now a.list.now loop.from loop.first loop.invariant.2 count (a.words - loop.first) _ i.3 i.1 w.0 w.1)
 
 add-first : tie.Need-overflow-add-first invariant-loop decreases-loop
@@ -89,8 +89,8 @@ loop-again c = let a = c.before.before.before.before.before.before.before.before
     let i = inside_of c.before.before.before.before.before.before.before.before.before.before.before.before.before.before.before in (
       omega (arith, i.1, c.before.before.before.before.before.before.before.before.before.before.before.before.before.before.before.before.loop-test.true),
       hashed.1,
-      words-before-more a.table.now a.list.now loop.from loop.first c.before.before.before.before.before.before.before.before.before.before.before.hash-part.result count loop.invariant.2 hashed.2,
-      unrepeated-more a.table.now a.list.now loop.from loop.first loop.invariant.2 count (a.words - loop.first) i.3 i.1 (sym c.before.is-part-unrepeated.ensures ∙ not-false c.before.is-part-unrepeated.result c.if1.false) loop.invariant.3,
+      words_before_more a.table.now a.list.now loop.from loop.first c.before.before.before.before.before.before.before.before.before.before.before.hash-part.result count loop.invariant.2 hashed.2,
+      unrepeated_more a.table.now a.list.now loop.from loop.first loop.invariant.2 count (a.words - loop.first) i.3 i.1 (sym c.before.is-part-unrepeated.ensures ∙ not-false c.before.is-part-unrepeated.result c.if1.false) loop.invariant.3,
       search rules,
     )
 

@@ -6,26 +6,26 @@ use native.Mathlib.Omega.{arith}
 use borrow.Author.Rules.{rules}
 use borrow.Author.Count.{below_more}
 use lib.ListN.{get_or}
-use Rattle.hashing.proofs.HashTables.{next-in-most, next-in-bucket, index-later, index-no-later}
-use Rattle.hashing.specs.HashTables.{spelledAt, nextIn, indexFrom}
-use Rattle.list_rules.proofs.Repeats.{part-repeated, part-unrepeated}
+use Rattle.hashing.proofs.HashTables.{next_in_most, next_in_bucket, index_later, index_no_later}
+use Rattle.hashing.specs.HashTables.{spelled_at, next_in, index_from}
+use Rattle.list_rules.proofs.Repeats.{part_repeated, part_unrepeated}
 use Rattle.scanning.proofs.Scans.{none}
-use Rattle.scanning.specs.Scans.{run_at, bucketOf}
+use Rattle.scanning.specs.Scans.{run_at, bucket_of}
 use Rattle.list_rules.proofs.is_part_distinct.Statement.{statement}
 use Rattle.list_rules.proofs.is_part_distinct.Tie as tie
 
 abbrev invariant-loop : tie.invariant-loop
-invariant-loop table list from count links starts word₀ word = (word ≤ count) × ((i : ℕ) → i < word → (j : ℕ) → i < j → j < count → spelledAt table list from i ≡ spelledAt table list from j → ⊥)
+invariant-loop table list from count links starts word₀ word = (word ≤ count) × ((i : ℕ) → i < word → (j : ℕ) → i < j → j < count → spelled_at table list from i ≡ spelled_at table list from j → ⊥)
 
 abbrev decreases-loop : tie.decreases-loop
 decreases-loop table list from count links starts word₀ word = count - word
 
 -- the word that begins where it is noted
-started : (c : tie.In-loop invariant-loop decreases-loop) → run_at c.before.before.before.before.before.before.args.table.now c.before.before.before.before.before.before.args.list.now (get_or c.before.before.before.before.before.before.args.starts.now c.before.loop.word 0) ≡ spelledAt c.before.before.before.before.before.before.args.table.now c.before.before.before.before.before.before.args.list.now c.before.before.before.before.before.before.args.from c.before.loop.word
+started : (c : tie.In-loop invariant-loop decreases-loop) → run_at c.before.before.before.before.before.before.args.table.now c.before.before.before.before.before.before.args.list.now (get_or c.before.before.before.before.before.before.args.starts.now c.before.loop.word 0) ≡ spelled_at c.before.before.before.before.before.before.args.table.now c.before.before.before.before.before.before.args.list.now c.before.before.before.before.before.before.args.from c.before.loop.word
 started c = (c.before.before.before.before.before.before.requires.2.start c.before.loop.word c.loop-test.true).1
 
 -- the next word of its bucket
-linked : (c : tie.In-loop invariant-loop decreases-loop) → get_or c.before.before.before.before.before.before.args.links.now c.before.loop.word 0 ≡ nextIn c.before.before.before.before.before.before.args.table.now c.before.before.before.before.before.before.args.list.now c.before.before.before.before.before.before.args.from c.before.before.before.before.before.before.args.count (bucketOf (spelledAt c.before.before.before.before.before.before.args.table.now c.before.before.before.before.before.before.args.list.now c.before.before.before.before.before.before.args.from c.before.loop.word)) (suc c.before.loop.word)
+linked : (c : tie.In-loop invariant-loop decreases-loop) → get_or c.before.before.before.before.before.before.args.links.now c.before.loop.word 0 ≡ next_in c.before.before.before.before.before.before.args.table.now c.before.before.before.before.before.before.args.list.now c.before.before.before.before.before.before.args.from c.before.before.before.before.before.before.args.count (bucket_of (spelled_at c.before.before.before.before.before.before.args.table.now c.before.before.before.before.before.before.args.list.now c.before.before.before.before.before.before.args.from c.before.loop.word)) (suc c.before.loop.word)
 linked c = c.before.before.before.before.before.before.requires.3.link c.before.loop.word (omega arith) c.loop-test.true
 
 loop-holds : tie.Need-loop-init invariant-loop decreases-loop
@@ -50,31 +50,31 @@ find-from-requires : tie.Need-find-from-requires invariant-loop decreases-loop
 find-from-requires c κs = let start = c.before.before.before.before.before.before.before.before in
     let a = start.args in
     let loop = c.before.before.before.loop in
-    let b = bucketOf (spelledAt a.table.now a.list.now a.from loop.word) in
+    let b = bucket_of (spelled_at a.table.now a.list.now a.from loop.word) in
     let e = linked c.before.before in (
       start.requires.0,
       start.requires.1,
       start.requires.2,
       start.requires.3,
       (start.requires.2.start loop.word c.before.before.loop-test.true).0,
-      omega (arith, e, next-in-most a.table.now a.list.now a.from a.count b (suc loop.word) c.before.before.loop-test.true),
-      λ (h : 0 < get_or a.links.now loop.word 0). next-in-bucket a.table.now a.list.now a.from a.count b (suc loop.word) (get_or a.links.now loop.word 0 - 1) (omega (arith, e, h)) ∙ ap bucketOf (sym (started c.before.before)),
+      omega (arith, e, next_in_most a.table.now a.list.now a.from a.count b (suc loop.word) c.before.before.loop-test.true),
+      λ (h : 0 < get_or a.links.now loop.word 0). next_in_bucket a.table.now a.list.now a.from a.count b (suc loop.word) (get_or a.links.now loop.word 0 - 1) (omega (arith, e, h)) ∙ ap bucket_of (sym (started c.before.before)),
     )
 
 -- the first later word that is alike
 found_of : (c : tie.After-find-from invariant-loop decreases-loop) → c.find-from.result
-    ≡ indexFrom c.before.before.before.before.before.before.before.before.before.args.table.now c.before.before.before.before.before.before.before.before.before.args.list.now c.before.before.before.before.before.before.before.before.before.args.from c.before.before.before.before.before.before.before.before.before.args.count (spelledAt c.before.before.before.before.before.before.before.before.before.args.table.now c.before.before.before.before.before.before.before.before.before.args.list.now c.before.before.before.before.before.before.before.before.before.args.from c.before.before.before.before.loop.word) (nextIn c.before.before.before.before.before.before.before.before.before.args.table.now c.before.before.before.before.before.before.before.before.before.args.list.now c.before.before.before.before.before.before.before.before.before.args.from c.before.before.before.before.before.before.before.before.before.args.count (bucketOf (spelledAt c.before.before.before.before.before.before.before.before.before.args.table.now c.before.before.before.before.before.before.before.before.before.args.list.now c.before.before.before.before.before.before.before.before.before.args.from c.before.before.before.before.loop.word)) (suc c.before.before.before.before.loop.word))
+    ≡ index_from c.before.before.before.before.before.before.before.before.before.args.table.now c.before.before.before.before.before.before.before.before.before.args.list.now c.before.before.before.before.before.before.before.before.before.args.from c.before.before.before.before.before.before.before.before.before.args.count (spelled_at c.before.before.before.before.before.before.before.before.before.args.table.now c.before.before.before.before.before.before.before.before.before.args.list.now c.before.before.before.before.before.before.before.before.before.args.from c.before.before.before.before.loop.word) (next_in c.before.before.before.before.before.before.before.before.before.args.table.now c.before.before.before.before.before.before.before.before.before.args.list.now c.before.before.before.before.before.before.before.before.before.args.from c.before.before.before.before.before.before.before.before.before.args.count (bucket_of (spelled_at c.before.before.before.before.before.before.before.before.before.args.table.now c.before.before.before.before.before.before.before.before.before.args.list.now c.before.before.before.before.before.before.before.before.before.args.from c.before.before.before.before.loop.word)) (suc c.before.before.before.before.loop.word))
 found_of c =
     let a = c.before.before.before.before.before.before.before.before.before.args in
     let loop = c.before.before.before.before.loop in
-    c.find-from.ensures ∙ ap (λ (w : List ℕ). indexFrom a.table.now a.list.now a.from a.count w (get_or a.links.now loop.word 0)) (started c.before.before.before)
-    ∙ ap (indexFrom a.table.now a.list.now a.from a.count (spelledAt a.table.now a.list.now a.from loop.word)) (linked c.before.before.before)
+    c.find-from.ensures ∙ ap (λ (w : List ℕ). index_from a.table.now a.list.now a.from a.count w (get_or a.links.now loop.word 0)) (started c.before.before.before)
+    ∙ ap (index_from a.table.now a.list.now a.from a.count (spelled_at a.table.now a.list.now a.from loop.word)) (linked c.before.before.before)
 
 returns : tie.Need-returns invariant-loop decreases-loop
 returns c = let a = c.before.before.before.before.before.before.before.before.before.before.args in
     let word = c.before.before.before.before.before.loop.word in
-    let later = index-later a.table.now a.list.now a.from (spelledAt a.table.now a.list.now a.from word) a.count word (c.before.find-from.result - 1) c.before.before.before.before.loop-test.true (omega (arith, found_of c.before, c.if1.true)) in
-    sym (part-repeated a.table.now a.list.now a.from a.count word (c.before.find-from.result - 1) later.0 later.1 later.2)
+    let later = index_later a.table.now a.list.now a.from (spelled_at a.table.now a.list.now a.from word) a.count word (c.before.find-from.result - 1) c.before.before.before.before.loop-test.true (omega (arith, found_of c.before, c.if1.true)) in
+    sym (part_repeated a.table.now a.list.now a.from a.count word (c.before.find-from.result - 1) later.0 later.1 later.2)
 
 add-word : tie.Need-overflow-add-word invariant-loop decreases-loop
 add-word c = search rules
@@ -86,14 +86,14 @@ loop-again : tie.Need-loop-preserved invariant-loop decreases-loop
 loop-again c = let a = c.before.before.before.before.before.before.before.before.before.before.args in
     let loop = c.before.before.before.before.before.loop in (
       omega (arith, c.before.before.before.before.loop-test.true),
-      below_more _ loop.word loop.invariant.1 (λ j l h q. index-no-later a.table.now a.list.now a.from (spelledAt a.table.now a.list.now a.from loop.word) a.count loop.word j (sym (found_of c.before) ∙ none c.before.find-from.result c.if1.false) l h q),
+      below_more _ loop.word loop.invariant.1 (λ j l h q. index_no_later a.table.now a.list.now a.from (spelled_at a.table.now a.list.now a.from loop.word) a.count loop.word j (sym (found_of c.before) ∙ none c.before.find-from.result c.if1.false) l h q),
     )
 
 returns-2 : tie.Need-returns-2 invariant-loop decreases-loop
 returns-2 c = let a = c.before.before.before.before.before.before.args in
     let loop = c.before.loop in
     let e : loop.word ≡ a.count = omega (arith, loop.invariant.0, c.loop-test.false) in
-    sym (part-unrepeated a.table.now a.list.now a.from a.count (λ i (h : i < a.count). loop.invariant.1 i (omega (arith, e, h))))
+    sym (part_unrepeated a.table.now a.list.now a.from a.count (λ i (h : i < a.count). loop.invariant.1 i (omega (arith, e, h))))
 
 pub is-part-distinct-spec : {M : Type 1} → statement M
 is-part-distinct-spec =

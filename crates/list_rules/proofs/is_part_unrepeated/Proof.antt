@@ -1,7 +1,7 @@
 -- `list_rules::is_part_unrepeated` meets its contract: the words of the part, and those behind it. Assumes nothing.
 use mathlib.Core.Path.{sym, ◌∙◌}
 use borrow.Author.Tests.{not-true, not-false}
-use Rattle.list_rules.proofs.Repeats.{repeated-more}
+use Rattle.list_rules.proofs.Repeats.{repeated_more}
 use Rattle.list_rules.proofs.is_part_unrepeated.Statement.{statement}
 use Rattle.list_rules.proofs.is_part_unrepeated.Tie as tie
 
@@ -12,7 +12,7 @@ is-part-distinct-requires c κs = let start = c.before.before.before.before.befo
 returns : tie.Need-returns
 returns c = let start = c.before.before.before.before.before.before.before in
     let a = start.args in
-    sym (repeated-more a.table.now a.list.now a.from a.count a.count a.size start.requires.4 (sym c.before.is-part-distinct.ensures ∙ not-true c.before.is-part-distinct.result c.if1.true))
+    sym (repeated_more a.table.now a.list.now a.from a.count a.count a.size start.requires.4 (sym c.before.is-part-distinct.ensures ∙ not-true c.before.is-part-distinct.result c.if1.true))
 
 is-unrepeated-requires : tie.Need-is-unrepeated-requires
 is-unrepeated-requires c κs = let start = c.before.before.before.before.before.before.before in

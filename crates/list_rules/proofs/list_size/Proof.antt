@@ -7,15 +7,15 @@ use native.Mathlib.Omega.{arith}
 use borrow.Author.Rules.{rules}
 use lib.ListN.{length, take}
 use lib.Seq.{take_all}
-use Rattle.base.proofs.Counts.{count-hit, count-miss}
+use Rattle.base.proofs.Counts.{count_hit, count_miss}
 use Rattle.base.specs.Lists.{count_of}
-use Rattle.lexicon.specs.Letters.{lineFeed}
-use Rattle.lexicon.specs.Lexicon.{listSize}
+use Rattle.lexicon.specs.Letters.{line_feed}
+use Rattle.lexicon.specs.Lexicon.{list_size}
 use Rattle.list_rules.proofs.list_size.Statement.{statement}
 use Rattle.list_rules.proofs.list_size.Tie as tie
 
 abbrev invariant-loop : tie.invariant-loop
-invariant-loop list words₀ at₀ words at = (at ≤ length list) × (words ≤ at) × (words ≡ count_of lineFeed (take at list))
+invariant-loop list words₀ at₀ words at = (at ≤ length list) × (words ≤ at) × (words ≡ count_of line_feed (take at list))
 
 abbrev decreases-loop : tie.decreases-loop
 decreases-loop list words₀ at₀ words at = length list - at
@@ -40,13 +40,13 @@ loop-again c = let start = c.before.before.before.before in
     let loop = c.before.before.before.loop in
     let h : loop.at < length start.args.list.now = c.before.before.loop-test.true in
     ⊎_elim
-    (λ w. (omega arith, omega arith, omega (arith, add-one loop.at, ap (λ (n : ℕ). count_of lineFeed (take n start.args.list.now)) (add-one loop.at), count-hit lineFeed start.args.list.now loop.at h w.0.taken, w.1, loop.invariant.2)))
-    (λ w. (omega arith, omega arith, omega (arith, add-one loop.at, ap (λ (n : ℕ). count_of lineFeed (take n start.args.list.now)) (add-one loop.at), count-miss lineFeed start.args.list.now loop.at h w.0.left, w.1, loop.invariant.2)))
+    (λ w. (omega arith, omega arith, omega (arith, add-one loop.at, ap (λ (n : ℕ). count_of line_feed (take n start.args.list.now)) (add-one loop.at), count_hit line_feed start.args.list.now loop.at h w.0.taken, w.1, loop.invariant.2)))
+    (λ w. (omega arith, omega arith, omega (arith, add-one loop.at, ap (λ (n : ℕ). count_of line_feed (take n start.args.list.now)) (add-one loop.at), count_miss line_feed start.args.list.now loop.at h w.0.left, w.1, loop.invariant.2)))
     c.if1.branch
 
 returns : tie.Need-returns invariant-loop decreases-loop
-unfolding listSize
-returns c = c.before.loop.invariant.2 ∙ ap (count_of lineFeed) (take_all c.before.loop.at c.before.before.args.list.now c.loop-test.false)
+unfolding list_size
+returns c = c.before.loop.invariant.2 ∙ ap (count_of line_feed) (take_all c.before.loop.at c.before.before.args.list.now c.loop-test.false)
 
 pub list-size-spec : {M : Type 1} → statement M
 list-size-spec =

@@ -6,41 +6,41 @@ use native.Mathlib.Omega.{arith}
 use borrow.Author.Rules.{rules}
 use lib.ListN.{length}
 use Rattle.base.specs.Answers.{refused}
-use Rattle.base.specs.Refusals.{refusalListMaking}
-use Rattle.lexicon.proofs.Calls.{spellings-long}
+use Rattle.base.specs.Refusals.{refusal_list_making}
+use Rattle.lexicon.proofs.Calls.{spellings_long}
 use Rattle.lexicon.specs.Reading.{spellings}
 use Rattle.word_places.specs.Places.{TextCounted}
-use Rattle.word_places.proofs.Noted.{text-counted}
-use Rattle.list_calls.proofs.Calls.{too-many-distinct, list-refused}
-use Rattle.list_calls.proofs.Fits.{words-fit}
-use Rattle.list_tables.specs.Tables.{maxTextWords}
-use Rattle.list_tables.proofs.Noted.{made-words, noted-below, counts-sortable, list-noted}
+use Rattle.word_places.proofs.Noted.{text_counted}
+use Rattle.list_calls.proofs.Calls.{too_many_distinct, list_refused}
+use Rattle.list_calls.proofs.Fits.{words_fit}
+use Rattle.list_tables.specs.Tables.{max_text_words}
+use Rattle.list_tables.proofs.Noted.{made_words_lem, noted_below, counts_sortable, list_noted}
 use Rattle.list_tables.proofs.make_in_tables.Statement.{statement}
 use Rattle.list_tables.proofs.make_in_tables.Tie as tie
 
 -- a short text has at most one word for each two bytes
-half : (c : tie.Start) → length (spellings c.args.table.now c.args.text.now) ≤ maxTextWords
-half c = omega (arith, words-fit c.args.table.now c.args.text.now, spellings-long c.args.table.now c.args.text.now, c.requires.1)
+half : (c : tie.Start) → length (spellings c.args.table.now c.args.text.now) ≤ max_text_words
+half c = omega (arith, words_fit c.args.table.now c.args.text.now, spellings_long c.args.table.now c.args.text.now, c.requires.1)
 
-few : (c : tie.After-note-words) → c.note-words.result ≤ maxTextWords
+few : (c : tie.After-note-words) → c.note-words.result ≤ max_text_words
 few c = omega (arith, c.note-words.ensures.sized, half c.before.before.before.before.before.before.before.before.before.before.before.before.before.before)
 
 -- what is noted and counted
 counted : (c : tie.After-count-places) → TextCounted c.before.before.before.before.before.before.before.before.before.before.before.before.before.before.before.before.before.before.before.before.before.before.before.before.before.args.table.now c.before.before.before.before.before.before.before.before.before.before.before.before.before.before.before.before.before.before.before.before.before.before.before.before.before.args.text.now c.before.before.before.before.before.before.before.before.before.before.before.note-words.new.1.1.1.1.0 c.before.before.before.before.before.before.before.before.before.before.before.note-words.new.1.1.1.1.1.0 c.count-places.new.1.1.0 c.before.before.before.before.before.before.before.before.before.before.before.note-words.result c.count-places.result
-counted c = text-counted _ _ _ _ _ c.before.before.before.before.before.before.before.before.before.before.before.note-words.result c.count-places.result c.before.before.before.before.before.before.before.before.before.before.before.note-words.ensures (omega (arith, c.before.before.before.before.before.before.before.before.before.before.before.before.before.before.before.before.before.before.before.before.before.before.before.before.before.requires.2.countsLong, few c.before.before.before.before.before.before.before.before.before.before.before, c.count-places.auto.1.1.0)) c.count-places.ensures.0 c.count-places.ensures.1
+counted c = text_counted _ _ _ _ _ c.before.before.before.before.before.before.before.before.before.before.before.note-words.result c.count-places.result c.before.before.before.before.before.before.before.before.before.before.before.note-words.ensures (omega (arith, c.before.before.before.before.before.before.before.before.before.before.before.before.before.before.before.before.before.before.before.before.before.before.before.before.before.requires.2.counts_long, few c.before.before.before.before.before.before.before.before.before.before.before, c.count-places.auto.1.1.0)) c.count-places.ensures.0 c.count-places.ensures.1
 
 note-words-requires : tie.Need-note-words-requires
 note-words-requires c κs = let start = c.before.before.before.before.before.before.before.before.before.before.before.before.before in
     let t = start.requires.2 in
     let h = half start in
-    (start.requires.0, t.headsLong, t.headsClear, omega (arith, t.linksLong), omega (arith, t.startsLong), omega (arith, t.firstsLong), omega arith)
+    (start.requires.0, t.heads_long, t.heads_clear, omega (arith, t.links_long), omega (arith, t.starts_long), omega (arith, t.firsts_long), omega arith)
 
 count-places-requires : tie.Need-count-places-requires
 count-places-requires c κs = let start = c.before.before.before.before.before.before.before.before.before.before.before.before.before.before.before.before.before.before.before.before.before.before.before.before in
     let t = start.requires.2 in
     let noted = c.before.before.before.before.before.before.before.before.before.before.note-words in
     let h = few c.before.before.before.before.before.before.before.before.before.before in
-    (omega arith, omega (arith, t.firstsLong, noted.auto.1.1.1.1.1.0), omega (arith, t.countsLong), noted-below start.args.table.now start.args.text.now _ _ noted.result _ noted.ensures (omega (arith, t.countsLong)), t.countsClear)
+    (omega arith, omega (arith, t.firsts_long, noted.auto.1.1.1.1.1.0), omega (arith, t.counts_long), noted_below start.args.table.now start.args.text.now _ _ noted.result _ noted.ensures (omega (arith, t.counts_long)), t.counts_clear)
 
 refused-requires : tie.Need-refused-requires
 refused-requires c κs = search rules
@@ -67,9 +67,9 @@ returns : tie.Need-returns
 returns c = let start = c.before.before.before.before.before.before.before.before.before.before.before.before.before.before.before.before.before.before.before.before.before.before.before.before.before.before.before.before.before.before in
     let a = start.args in
     let w = c.without-list.ensures in
-    let number = (counted c.before.before.before.before.before).distinctWords ∙ sym (ap length (made-words a.table.now a.text.now)) in
-    list-refused a.table.now a.text.now a.list.now a.ranks.now (refused refusalListMaking) refl
-    (too-many-distinct a.table.now a.text.now a.list.now a.ranks.now (omega (arith, words-fit a.table.now a.text.now, start.requires.1)) (omega (arith, number, c.before.before.if1.true)))
+    let number = (counted c.before.before.before.before.before).distinct_words ∙ sym (ap length (made_words_lem a.table.now a.text.now)) in
+    list_refused a.table.now a.text.now a.list.now a.ranks.now (refused refusal_list_making) refl
+    (too_many_distinct a.table.now a.text.now a.list.now a.ranks.now (omega (arith, words_fit a.table.now a.text.now, start.requires.1)) (omega (arith, number, c.before.before.if1.true)))
     c.without-list.result (w.0 ∙ c.before.refused.ensures) w.1 w.2
 
 clear-buckets-requires : tie.Need-clear-buckets-requires
@@ -83,8 +83,8 @@ order-places-requires c κs = let start = c.before.before.before.before.before.b
     let number = c.before.before.before.before.before.before.before.before.before.before.count-places in
     let cleared = c.before.before.before.before.before.clear-buckets in
     let h = few c.before.before.before.before.before.before.before.before.before.before.before.before.before.before.before.before.before.before.before.before.before in
-    counts-sortable a.table.now a.text.now _ _ _ _ _ noted.result number.result (counted c.before.before.before.before.before.before.before.before.before.before) (omega arith) (omega (arith, t.countsLong, number.auto.1.1.0))
-    (λ x (l : x < length cleared.new.0). cleared.ensures x (omega (arith, cleared.auto.0))) (omega (arith, t.headsLong, cleared.auto.0, noted.auto.1.1.0)) (omega (arith, c.before.before.before.before.before.before.before.if1.false, t.linksLong, noted.auto.1.1.1.0))
+    counts_sortable a.table.now a.text.now _ _ _ _ _ noted.result number.result (counted c.before.before.before.before.before.before.before.before.before.before) (omega arith) (omega (arith, t.counts_long, number.auto.1.1.0))
+    (λ x (l : x < length cleared.new.0). cleared.ensures x (omega (arith, cleared.auto.0))) (omega (arith, t.heads_long, cleared.auto.0, noted.auto.1.1.0)) (omega (arith, c.before.before.before.before.before.before.before.if1.false, t.links_long, noted.auto.1.1.1.0))
 
 write-made-requires : tie.Need-write-made-requires
 write-made-requires c κs = let start = c.before.before.before.before.before.before.before.before.before.before.before.before.before.before.before.before.before.before.before.before.before.before.before.before.before.before.before.before.before.before.before.before.before.before.before.before.before.before.before.before.before.before.before.before.before.before.before.before in
@@ -94,8 +94,8 @@ write-made-requires c κs = let start = c.before.before.before.before.before.bef
     let number = c.before.before.before.before.before.before.before.before.before.before.before.before.before.before.before.before.before.before.before.before.before.before.before.count-places in
     let sorted = c.before.before.before.before.before.before.before.before.before.before.before.before.order-places in
     let h = few c.before.before.before.before.before.before.before.before.before.before.before.before.before.before.before.before.before.before.before.before.before.before.before.before.before.before.before.before.before.before.before.before.before.before in
-    list-noted a.table.now a.text.now _ _ _ _ _ noted.result number.result (counted c.before.before.before.before.before.before.before.before.before.before.before.before.before.before.before.before.before.before.before.before.before.before.before) sorted.ensures (omega (arith, c.before.before.before.before.before.before.before.before.before.before.before.before.before.before.before.before.before.before.before.before.if1.false, t.linksLong, sorted.auto.1.1.1.0, noted.auto.1.1.1.0))
-    start.requires.0 start.requires.1 (omega (arith, c.before.before.before.before.before.before.before.before.before.before.before.before.before.before.before.before.before.before.before.before.if1.false)) (omega (arith, t.firstsLong, noted.auto.1.1.1.1.1.0)) (omega (arith, t.countsLong, sorted.auto.0, number.auto.1.1.0))
+    list_noted a.table.now a.text.now _ _ _ _ _ noted.result number.result (counted c.before.before.before.before.before.before.before.before.before.before.before.before.before.before.before.before.before.before.before.before.before.before.before) sorted.ensures (omega (arith, c.before.before.before.before.before.before.before.before.before.before.before.before.before.before.before.before.before.before.before.before.if1.false, t.links_long, sorted.auto.1.1.1.0, noted.auto.1.1.1.0))
+    start.requires.0 start.requires.1 (omega (arith, c.before.before.before.before.before.before.before.before.before.before.before.before.before.before.before.before.before.before.before.before.if1.false)) (omega (arith, t.firsts_long, noted.auto.1.1.1.1.1.0)) (omega (arith, t.counts_long, sorted.auto.0, number.auto.1.1.0))
 
 same-length-6 : tie.Need-same-length-6
 same-length-6 c = c.before.before.before.before.before.before.before.before.before.before.before.before.before.before.before.before.before.order-places.auto.1.1.0 ∙ c.before.before.before.before.before.before.before.before.before.before.before.before.before.before.before.before.before.before.before.before.before.before.before.clear-buckets.auto.0 ∙ c.before.before.before.before.before.before.before.before.before.before.before.before.before.before.before.before.before.before.before.before.before.before.before.before.before.before.before.before.before.before.before.before.before.before.before.before.before.before.before.note-words.auto.1.1.0

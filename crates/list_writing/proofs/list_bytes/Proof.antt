@@ -6,25 +6,25 @@ use native.Mathlib.Omega.{arith}
 use borrow.Author.Rules.{rules}
 use lib.ListN.{length, take, get_or}
 use lib.Seq.{take_all}
-use Rattle.list_calls.proofs.Fits.{made-fits}
-use Rattle.list_calls.proofs.Lists.{list-none, made_list, bytes_next, bytes_most}
-use Rattle.list_calls.specs.Making.{list_of, madeWords}
+use Rattle.list_calls.proofs.Fits.{made_fits}
+use Rattle.list_calls.proofs.Lists.{list_none, made_list_lem, bytes_next, bytes_most}
+use Rattle.list_calls.specs.Making.{list_of, made_words}
 use Rattle.list_writing.proofs.list_bytes.Statement.{statement}
 use Rattle.list_writing.proofs.list_bytes.Tie as tie
 
 abbrev invariant-loop : tie.invariant-loop
-invariant-loop table text starts order words bytes₀ rank₀ bytes rank = (rank ≤ words) × (bytes ≡ length (list_of (take rank (madeWords table text))))
+invariant-loop table text starts order words bytes₀ rank₀ bytes rank = (rank ≤ words) × (bytes ≡ length (list_of (take rank (made_words table text))))
 
 abbrev decreases-loop : tie.decreases-loop
 decreases-loop table text starts order words bytes₀ rank₀ bytes rank = words - rank
 
 -- a rank is below the number of words
-below : (c : tie.In-loop invariant-loop decreases-loop) → c.before.loop.rank < length (madeWords c.before.before.before.before.before.before.args.table.now c.before.before.before.before.before.before.args.text.now)
+below : (c : tie.In-loop invariant-loop decreases-loop) → c.before.loop.rank < length (made_words c.before.before.before.before.before.before.args.table.now c.before.before.before.before.before.before.args.text.now)
 below c = omega (arith, c.loop-test.true, c.before.before.before.before.before.before.requires.2)
 
 -- the bytes with those of the word at the rank
 longer : (c : tie.After-scan-word invariant-loop decreases-loop) → c.before.before.before.before.loop.bytes + (c.scan-word.result.end - get_or c.before.before.before.before.before.before.before.before.before.args.starts.now (get_or c.before.before.before.before.before.before.before.before.before.args.order.now c.before.before.before.before.loop.rank 0) 0 + 1)
-    ≡ length (list_of (take (c.before.before.before.before.loop.rank + 1) (madeWords c.before.before.before.before.before.before.before.before.before.args.table.now c.before.before.before.before.before.before.before.before.before.args.text.now)))
+    ≡ length (list_of (take (c.before.before.before.before.loop.rank + 1) (made_words c.before.before.before.before.before.before.before.before.before.args.table.now c.before.before.before.before.before.before.before.before.before.args.text.now)))
 longer c =
     let start = c.before.before.before.before.before.before.before.before.before in
     let a = start.args in
@@ -34,7 +34,7 @@ longer c =
       arith,
       loop.invariant.1,
       c.scan-word.ensures.0,
-      bytes_next (madeWords a.table.now a.text.now) loop.rank h,
+      bytes_next (made_words a.table.now a.text.now) loop.rank h,
       ap length (start.requires.1.word loop.rank h).1,
     )
 
@@ -46,14 +46,14 @@ few c =
     omega (
       arith,
       longer c,
-      bytes_most (madeWords a.table.now a.text.now) (c.before.before.before.before.loop.rank + 1),
-      ap length (made_list a.table.now a.text.now),
-      made-fits a.table.now a.text.now,
+      bytes_most (made_words a.table.now a.text.now) (c.before.before.before.before.loop.rank + 1),
+      ap length (made_list_lem a.table.now a.text.now),
+      made_fits a.table.now a.text.now,
       start.requires.3,
     )
 
 loop-holds : tie.Need-loop-init invariant-loop decreases-loop
-loop-holds c = (omega arith, sym (ap length list-none))
+loop-holds c = (omega arith, sym (ap length list_none))
 
 mul-place : tie.Need-overflow-mul-place invariant-loop decreases-loop
 mul-place c = omega (arith, (c.before.before.before.before.before.before.requires.1.inside c.before.loop.rank (below c)).0)
@@ -93,9 +93,9 @@ loop-again c = (omega (arith, c.before.before.before.loop-test.true), longer c)
 
 returns : tie.Need-returns invariant-loop decreases-loop
 returns c = let start = c.before.before.before.before.before.before in
-    let W = madeWords start.args.table.now start.args.text.now in
+    let W = made_words start.args.table.now start.args.text.now in
     c.before.loop.invariant.1 ∙ ap (λ (ws : List (List ℕ)). length (list_of ws)) (take_all c.before.loop.rank W (omega (arith, c.loop-test.false, start.requires.2)))
-    ∙ sym (ap length (made_list start.args.table.now start.args.text.now))
+    ∙ sym (ap length (made_list_lem start.args.table.now start.args.text.now))
 
 pub list-bytes-spec : {M : Type 1} → statement M
 list-bytes-spec =

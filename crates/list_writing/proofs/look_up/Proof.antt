@@ -6,8 +6,8 @@ use native.Mathlib.Omega.{arith}
 use borrow.Author.Rules.{rules}
 use lib.ListN.{length, take, get_or, length-map, length-set}
 use lib.Seq.{take_all, length-take-le, get_or-take}
-use Rattle.base.proofs.Fronts.{front-none, front-next}
-use Rattle.base.proofs.Lists.{all-at, get_d_map}
+use Rattle.base.proofs.Fronts.{front_none, front_next}
+use Rattle.base.proofs.Lists.{all_at, get_d_map}
 use Rattle.base.specs.Answers.{front}
 use Rattle.list_writing.proofs.look_up.Statement.{statement}
 use Rattle.list_writing.proofs.look_up.Tie as tie
@@ -25,10 +25,10 @@ inside c =
     let a = c.before.before.args in
     let l : length (take a.size a.places.now) ≡ a.size = length-take-le a.size a.places.now c.before.before.requires.0 in
     rw (get_or-take a.size a.places.now c.before.loop.i 0 c.loop-test.true) at
-    (all-at (λ (p : ℕ). p < length a.values.now) (take a.size a.places.now) 0 c.before.loop.i c.before.before.requires.1 (omega (arith, c.loop-test.true)))
+    (all_at (λ (p : ℕ). p < length a.values.now) (take a.size a.places.now) 0 c.before.loop.i c.before.before.requires.1 (omega (arith, c.loop-test.true)))
 
 loop-holds : tie.Need-loop-init invariant-loop decreases-loop
-loop-holds c = (omega arith, refl, sym (front-none _))
+loop-holds c = (omega arith, refl, sym (front_none _))
 
 mul-place : tie.Need-overflow-mul-place invariant-loop decreases-loop
 mul-place c = search rules
@@ -70,7 +70,7 @@ loop-again c = let start = c.before.before.before.before in
     ∙ ap (λ (p : ℕ). get_or a.values.now p 0) (get_or-take a.size a.places.now loop.i 0 h) in (
       omega arith,
       length-set loop.ranks loop.i _ ∙ loop.invariant.1,
-      rw (← v, loop.invariant.2) (front-next xs a.ranks.now loop.i (omega arith) (omega (arith, start.requires.2))),
+      rw (← v, loop.invariant.2) (front_next xs a.ranks.now loop.i (omega arith) (omega (arith, start.requires.2))),
     )
 
 same_length : tie.Need-same-length invariant-loop decreases-loop

@@ -6,25 +6,25 @@ use native.Mathlib.Omega.{arith}
 use borrow.Author.Rules.{rules}
 use lib.ListN.{length}
 use Rattle.base.specs.Answers.{refused, front}
-use Rattle.base.specs.Refusals.{refusalShortSlice}
-use Rattle.base.specs.Texts.{maxWords}
-use Rattle.lexicon.proofs.Calls.{spellings-long}
-use Rattle.lexicon.specs.Reading.{textWords}
-use Rattle.list_calls.proofs.Calls.{list-too-long, ranks-too-long, makes, list-refused, list-accepted}
-use Rattle.list_calls.proofs.Fits.{words-fit}
-use Rattle.list_calls.specs.Making.{maxListWords, madeWords}
+use Rattle.base.specs.Refusals.{refusal_short_slice}
+use Rattle.base.specs.Texts.{max_words}
+use Rattle.lexicon.proofs.Calls.{spellings_long}
+use Rattle.lexicon.specs.Reading.{text_words}
+use Rattle.list_calls.proofs.Calls.{list_too_long, ranks_too_long, makes, list_refused, list_accepted}
+use Rattle.list_calls.proofs.Fits.{words_fit}
+use Rattle.list_calls.specs.Making.{max_list_words, made_words}
 use Rattle.list_writing.proofs.write_made.Statement.{statement}
 use Rattle.list_writing.proofs.write_made.Tie as tie
 
 -- the number of words
-sized : (c : tie.Start) → c.args.size ≡ length (textWords c.args.table.now c.args.text.now)
-sized c = c.requires.sized ∙ spellings-long c.args.table.now c.args.text.now
+sized : (c : tie.Start) → c.args.size ≡ length (text_words c.args.table.now c.args.text.now)
+sized c = c.requires.sized ∙ spellings_long c.args.table.now c.args.text.now
 
 -- a short text has no more words than any may have
-few_words : (c : tie.Start) → length (textWords c.args.table.now c.args.text.now) ≤ maxWords
-few_words c = omega (arith, words-fit c.args.table.now c.args.text.now, c.requires.short)
+few_words : (c : tie.Start) → length (text_words c.args.table.now c.args.text.now) ≤ max_words
+few_words c = omega (arith, words_fit c.args.table.now c.args.text.now, c.requires.short)
 
-few-distinct : (c : tie.Start) → length (madeWords c.args.table.now c.args.text.now) ≤ maxListWords
+few-distinct : (c : tie.Start) → length (made_words c.args.table.now c.args.text.now) ≤ max_list_words
 few-distinct c = omega (arith, c.requires.number, c.requires.few)
 
 list-bytes-requires : tie.Need-list-bytes-requires
@@ -40,8 +40,8 @@ returns : tie.Need-returns
 returns c = let start = c.before.before.before.before.before.before.before.before.before.before.before.before in
     let a = start.args in
     let w = c.without-list.ensures in
-    list-refused a.table.now a.text.now a.list.now a.ranks.now (refused refusalShortSlice) refl
-    (list-too-long a.table.now a.text.now a.list.now a.ranks.now (few_words start) start.requires.short (few-distinct start) (rw c.before.before.before.list-bytes.ensures at c.before.before.if1.true))
+    list_refused a.table.now a.text.now a.list.now a.ranks.now (refused refusal_short_slice) refl
+    (list_too_long a.table.now a.text.now a.list.now a.ranks.now (few_words start) start.requires.short (few-distinct start) (rw c.before.before.before.list-bytes.ensures at c.before.before.if1.true))
     c.without-list.result (w.0 ∙ c.before.refused.ensures) w.1 w.2
 
 refused-requires-2 : tie.Need-refused-requires-2
@@ -54,8 +54,8 @@ returns-2 : tie.Need-returns-2
 returns-2 c = let start = c.before.before.before.before.before.before.before.before.before.before.before.before.before in
     let a = start.args in
     let w = c.without-list2.ensures in
-    list-refused a.table.now a.text.now a.list.now a.ranks.now (refused refusalShortSlice) refl
-    (ranks-too-long a.table.now a.text.now a.list.now a.ranks.now (few_words start) start.requires.short (few-distinct start) (rw (sized start) at c.before.before.if2.true))
+    list_refused a.table.now a.text.now a.list.now a.ranks.now (refused refusal_short_slice) refl
+    (ranks_too_long a.table.now a.text.now a.list.now a.ranks.now (few_words start) start.requires.short (few-distinct start) (rw (sized start) at c.before.before.if2.true))
     c.without-list2.result (w.0 ∙ c.before.refused2.ensures) w.1 w.2
 
 write-list-requires : tie.Need-write-list-requires
@@ -76,7 +76,7 @@ same-length-2 c = search rules
 returns-3 : tie.Need-returns-3
 returns-3 c = let start = c.before.before.before.before.before.before.before.before.before.before.before.before.before.before.before.before.before.before.before.before in
     let a = start.args in
-    list-accepted a.table.now a.text.now a.list.now a.ranks.now
+    list_accepted a.table.now a.text.now a.list.now a.ranks.now
     (makes a.table.now a.text.now a.list.now a.ranks.now (few_words start) start.requires.short (few-distinct start) (rw c.before.before.before.before.before.before.before.before.before.before.before.list-bytes.ensures at c.before.before.before.before.before.before.before.before.before.before.if1.false) (rw (sized start) at c.before.before.before.before.before.before.before.before.before.if2.false))
     _ _ _ c.accepted.ensures c.before.before.before.before.before.before.before.before.before.before.before.list-bytes.ensures (sized start) c.before.before.before.before.before.before.before.write-list.ensures
     (c.before.before.before.look_up.ensures ∙ ap (λ (xs : List ℕ). front xs a.ranks.now) start.requires.ranked)

@@ -6,15 +6,15 @@ use native.Mathlib.Omega.{arith}
 use lib.ListN.{length, take, drop, get_or, length-set}
 use lib.Seq.{take-length}
 use Rattle.base.specs.Answers.{written}
-use Rattle.scanning.proofs.Scans.{run-at-inside}
-use Rattle.scanning.specs.Scans.{letterAt, run_at}
-use Rattle.list_writing.proofs.Words.{written_none, written_next, written_last, Lettered, lettered, word-ended}
+use Rattle.scanning.proofs.Scans.{run_at_inside}
+use Rattle.scanning.specs.Scans.{letter_at, run_at}
+use Rattle.list_writing.proofs.Words.{written_none, written_next, written_last, Lettered, lettered, word_ended}
 use Rattle.list_writing.proofs.write_spelling.Statement.{statement}
 use Rattle.list_writing.proofs.write_spelling.Tie as tie
 
 abbrev invariant-loop : tie.invariant-loop
 invariant-loop table text start list₀ at i₀ letter₀ list i letter =
-    (i ≤ length (run_at table text start)) × (drop i (run_at table text start) ≡ run_at table text (start + i)) × (letter ≡ letterAt table text (start + i))
+    (i ≤ length (run_at table text start)) × (drop i (run_at table text start) ≡ run_at table text (start + i)) × (letter ≡ letter_at table text (start + i))
     × (length list ≡ length list₀) × (list ≡ written (take i (run_at table text start)) at list₀)
 
 abbrev decreases-loop : tie.decreases-loop
@@ -30,7 +30,7 @@ letter-of c =
 ended : (c : tie.After-loop invariant-loop decreases-loop) → c.before.loop.i ≡ length (run_at c.before.before.before.before.before.before.args.table.now c.before.before.before.before.before.before.args.text.now c.before.before.before.before.before.before.args.start)
 ended c =
     let a = c.before.before.before.before.before.before.args in
-    word-ended a.table.now a.text.now a.start c.before.loop.i c.before.loop.invariant.1 c.before.loop.invariant.0 (omega (arith, c.loop-test.false, c.before.loop.invariant.2))
+    word_ended a.table.now a.text.now a.start c.before.loop.i c.before.loop.invariant.1 c.before.loop.invariant.0 (omega (arith, c.loop-test.false, c.before.loop.invariant.2))
 
 letter-at-requires : tie.Need-letter-at-requires invariant-loop decreases-loop
 letter-at-requires c κs = c.before.before.before.requires.0
@@ -40,7 +40,7 @@ loop-holds c = let a = c.before.before.before.before.args in
     let z : a.start ≡ a.start + 0 = omega arith in (
       omega arith,
       ap (run_at a.table.now a.text.now) z,
-      c.letter_at.ensures ∙ ap (letterAt a.table.now a.text.now) z,
+      c.letter_at.ensures ∙ ap (letter_at a.table.now a.text.now) z,
       refl,
       sym (written_none a.list.now a.at),
     )
@@ -55,7 +55,7 @@ add-i : tie.Need-overflow-add-i invariant-loop decreases-loop
 add-i c = omega (arith, (letter-of c).inside, c.before.before.before.before.before.before.requires.2)
 
 add-letter-at : tie.Need-overflow-add-letter-at invariant-loop decreases-loop
-add-letter-at c = omega (arith, (letter-of c).inside, run-at-inside c.before.before.before.before.before.before.args.table.now c.before.before.before.before.before.before.args.text.now c.before.before.before.before.before.before.args.start c.before.before.before.before.before.before.requires.1)
+add-letter-at c = omega (arith, (letter-of c).inside, run_at_inside c.before.before.before.before.before.before.args.table.now c.before.before.before.before.before.before.args.text.now c.before.before.before.before.before.before.args.start c.before.before.before.before.before.before.requires.1)
 
 letter-at-requires-2 : tie.Need-letter-at-requires-2 invariant-loop decreases-loop
 letter-at-requires-2 c κs = c.before.before.before.before.before.before.requires.0

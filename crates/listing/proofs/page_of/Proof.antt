@@ -6,19 +6,19 @@ use mathlib.Core.Bool.{true, false}
 use borrow.Author.Tests.{ne_eqb}
 use lib.ListN.{length}
 use Rattle.base.specs.declared.Answer.{Answer}
-use Rattle.base.specs.Answers.{accepted, isAccepted}
-use Rattle.index.specs.Arrays.{Arrays, arrays, textIn}
-use Rattle.index.specs.Entries.{checkAnswer}
+use Rattle.base.specs.Answers.{accepted, is_accepted}
+use Rattle.index.specs.Arrays.{Arrays, arrays, text_in}
+use Rattle.index.specs.Entries.{check_answer}
 use Rattle.words.specs.Ready.{Checked}
-use Rattle.words.proofs.Parts.{accepted-checked, checked-some}
-use Rattle.words.proofs.Positions.{ranks-below}
-use Rattle.documents.proofs.Absent.{absent-words}
-use Rattle.questions.specs.Answering.{checkAnswerIn, phraseIn}
-use Rattle.questions.proofs.Askable.{absent-at}
-use Rattle.questions.proofs.Answered.{phrase-fits}
-use Rattle.questions.proofs.Checks.{check-in-clear}
-use Rattle.listing.specs.Paging.{Call, call_of, callPage, unwritten, requestAnswer, pageAnswer, PageResult, page_of}
-use Rattle.listing.proofs.Paged.{page-refused, page-finished, page-nowhere, accepted-call, by-reading, by-request, taken}
+use Rattle.words.proofs.Parts.{accepted_checked, checked_some}
+use Rattle.words.proofs.Positions.{ranks_below_lem}
+use Rattle.documents.proofs.Absent.{absent_words}
+use Rattle.questions.specs.Answering.{check_answer_in, phrase_in}
+use Rattle.questions.proofs.Askable.{absent_at}
+use Rattle.questions.proofs.Answered.{phrase_fits}
+use Rattle.questions.proofs.Checks.{check_in_clear}
+use Rattle.listing.specs.Paging.{Call, call_of, call_page, unwritten, request_answer, page_answer, PageResult, page_of}
+use Rattle.listing.proofs.Paged.{page_refused, page_finished, page_nowhere, accepted_call, by_reading, by_request, taken}
 use borrow.Author.Rules.{rules}
 use Rattle.listing.proofs.page_of.Statement.{statement}
 use Rattle.listing.proofs.page_of.Tie as tie
@@ -31,42 +31,42 @@ abbrev call_at : tie.Start → Call
 call_at c = call_of c.args.s c.args.shape (four c) c.args.documents.now c.args.words.now c.args.start c.args.count c.args.lines.now
 
 -- the answer of the tests after those of the index and of the starts
-abbrev askedAt : tie.Start → Answer
-askedAt c = requestAnswer c.args.shape.vocabulary c.args.words.now c.args.start c.args.count (length (textIn c.args.s (four c))) c.args.state.next (length c.args.lines.now)
+abbrev asked_at : tie.Start → Answer
+asked_at c = request_answer c.args.shape.vocabulary c.args.words.now c.args.start c.args.count (length (text_in c.args.s (four c))) c.args.state.next (length c.args.lines.now)
 
 -- past the first test the slices have passed the check, and the starts keep the rules
 module _ (c : tie.Else1) where
   abbrev start : tie.Start
   start = c.before.before.before.before.before.before.before.before.before.before
 
-  none : (checkAnswerIn start.args.s start.args.shape (four start) start.args.documents.now).refusal ≡ 0
+  none : (check_answer_in start.args.s start.args.shape (four start) start.args.documents.now).refusal ≡ 0
   none = ap (λ (r : Answer). r.refusal) (sym c.before.before.check-in-documents.ensures) ∙ c.if1.false
 
-  passed : checkAnswer start.args.s start.args.shape (four start) ≡ accepted 0
-  passed = (check-in-clear start.args.s start.args.shape (four start) start.args.documents.now none).0
+  passed : check_answer start.args.s start.args.shape (four start) ≡ accepted 0
+  passed = (check_in_clear start.args.s start.args.shape (four start) start.args.documents.now none).0
 
   checked : Checked start.args.s start.args.shape (four start)
-  checked = accepted-checked start.args.s start.pre start.args.shape (four start) (ap (λ (r : Answer). r.refusal) passed)
+  checked = accepted_checked start.args.s start.pre start.args.shape (four start) (ap (λ (r : Answer). r.refusal) passed)
 
 -- the first of the lengths is the length of the text
-asked : (c : tie.After-request-answer) → c.request-answer.result ≡ askedAt (start c.before.before)
+asked : (c : tie.After-request-answer) → c.request-answer.result ≡ asked_at (start c.before.before)
 asked c =
     let st = start c.before.before in
     c.request-answer.ensures
-    ∙ ap (λ n. requestAnswer st.args.shape.vocabulary st.args.words.now st.args.start st.args.count n st.args.state.next (length st.args.lines.now)) (c.before.text-length.ensures.1 _ _ _ _ _ (checked c.before.before))
+    ∙ ap (λ n. request_answer st.args.shape.vocabulary st.args.words.now st.args.start st.args.count n st.args.state.next (length st.args.lines.now)) (c.before.text-length.ensures.1 _ _ _ _ _ (checked c.before.before))
 
 -- past the second the call is accepted
 good : (c : tie.Else2) → let st = start c.before.before.before.before in
-    pageAnswer (call_at st) st.args.state ≡ accepted (length (callPage (call_at st) st.args.state).found)
+    page_answer (call_at st) st.args.state ≡ accepted (length (call_page (call_at st) st.args.state).found)
 good c =
     let at = c.before.before.before.before in
     taken (call_at (start at)) (start at).args.state (none at) (ap (λ (r : Answer). r.refusal) (sym (asked c.before.before)) ∙ c.if2.false)
 
 -- a refused page
-by : (st : tie.Start) (r : Answer) → pageAnswer (call_at st) st.args.state ≡ r → isAccepted r ≡ false
+by : (st : tie.Start) (r : Answer) → page_answer (call_at st) st.args.state ≡ r → is_accepted r ≡ false
     → (unwritten r st.args.state ≡ (page_of (call_at st) st.args.state).page) × (st.args.lines.now ≡ (page_of (call_at st) st.args.state).lines)
 by st r e h =
-    let p = page-refused (call_at st) st.args.state r e h in
+    let p = page_refused (call_at st) st.args.state r e h in
     (ap (λ (x : PageResult). x.page) p, ap (λ (x : PageResult). x.lines) p)
 
 check-in-documents-requires : tie.Need-check-in-documents-requires
@@ -79,11 +79,11 @@ returns : tie.Need-returns
 returns c =
     let st = c.before.before.before.before.before.before.before.before.before.before.before in
     let r = c.before.before.before.check-in-documents in
-    let some : (checkAnswerIn st.args.s st.args.shape (four st) st.args.documents.now).refusal ≡ 0 → ⊥ = λ e. c.before.if1.true (ap (λ (r : Answer). r.refusal) r.ensures ∙ e) in
-    rw c.unwritten.ensures (by st r.result (by-reading (call_at st) st.args.state some ∙ sym r.ensures) (ne_eqb r.result.refusal 0 c.before.if1.true))
+    let some : (check_answer_in st.args.s st.args.shape (four st) st.args.documents.now).refusal ≡ 0 → ⊥ = λ e. c.before.if1.true (ap (λ (r : Answer). r.refusal) r.ensures ∙ e) in
+    rw c.unwritten.ensures (by st r.result (by_reading (call_at st) st.args.state some ∙ sym r.ensures) (ne_eqb r.result.refusal 0 c.before.if1.true))
 
 text-length-requires : tie.Need-text-length-requires
-text-length-requires c κs = checked-some (checked c)
+text-length-requires c κs = checked_some (checked c)
 
 request-answer-requires : tie.Need-request-answer-requires
 request-answer-requires c κs = search rules
@@ -96,9 +96,9 @@ returns-2 c =
     let at = c.before.before.before.before.before in
     let st = start at in
     let a = c.before.before.before in
-    let some : (askedAt st).refusal ≡ 0 → ⊥ = λ e. c.before.if2.true (ap (λ (r : Answer). r.refusal) (asked a) ∙ e) in
+    let some : (asked_at st).refusal ≡ 0 → ⊥ = λ e. c.before.if2.true (ap (λ (r : Answer). r.refusal) (asked a) ∙ e) in
     rw c.unwritten2.ensures
-    (by st a.request-answer.result (by-request (call_at st) st.args.state (none at) some ∙ sym (asked a)) (ne_eqb a.request-answer.result.refusal 0 c.before.if2.true))
+    (by st a.request-answer.result (by_request (call_at st) st.args.state (none at) some ∙ sym (asked a)) (ne_eqb a.request-answer.result.refusal 0 c.before.if2.true))
 
 accepted-requires : tie.Need-accepted-requires
 accepted-requires c κs = search rules
@@ -109,13 +109,13 @@ unwritten-requires-3 c κs = search rules
 returns-3 : tie.Need-returns-3
 returns-3 c =
     let st = start c.before.before.before.before.before.before.before in
-    rw (c.unwritten3.ensures, c.before.accepted.ensures) (page-finished (call_at st) st.args.state (good c.before.before.before) c.before.before.if3.true)
+    rw (c.unwritten3.ensures, c.before.accepted.ensures) (page_finished (call_at st) st.args.state (good c.before.before.before) c.before.before.if3.true)
 
 -- an accepted call has a phrase that lies in the lent words
 has-absent-requires : tie.Need-has-absent-requires
 has-absent-requires c κs =
     let st = start c.before.before.before.before.before in
-    (phrase-fits st.args.shape.vocabulary st.args.words.now st.args.start st.args.count (accepted-call (call_at st) st.args.state (ap isAccepted (good c.before))).phrase).inside
+    (phrase_fits st.args.shape.vocabulary st.args.words.now st.args.start st.args.count (accepted_call (call_at st) st.args.state (ap is_accepted (good c.before))).phrase).inside
 
 -- one with an absent word stands nowhere
 accepted-requires-2 : tie.Need-accepted-requires-2
@@ -128,18 +128,18 @@ returns-4 : tie.Need-returns-4
 returns-4 c =
     let at = c.before.before.before.before.before.before.before.before.before in
     let st = start at in
-    let t = textIn st.args.s (four st) in
-    let phrase = phraseIn st.args.words.now st.args.start st.args.count in
-    let absent = absent-at st.args.shape.vocabulary phrase (sym c.before.before.before.has-absent.ensures ∙ c.before.before.if4.true) in
-    let nowhere = (absent-words st.args.shape.vocabulary st.args.documents.now t (ranks-below (checked at))).stands phrase absent.0 absent.1 absent.2 in
+    let t = text_in st.args.s (four st) in
+    let phrase = phrase_in st.args.words.now st.args.start st.args.count in
+    let absent = absent_at st.args.shape.vocabulary phrase (sym c.before.before.before.has-absent.ensures ∙ c.before.before.if4.true) in
+    let nowhere = (absent_words st.args.shape.vocabulary st.args.documents.now t (ranks_below_lem (checked at))).stands phrase absent.0 absent.1 absent.2 in
     let n = c.before.before.before.before.before.before.before.before.text-length.ensures.1 _ _ _ _ _ (checked at) in
-    let page = page-nowhere (call_at st) st.args.state (good c.before.before.before.before.before) c.before.before.before.before.if3.false nowhere in
+    let page = page_nowhere (call_at st) st.args.state (good c.before.before.before.before.before) c.before.before.before.before.if3.false nowhere in
     (c.unwritten4.ensures ∙ ap₂ unwritten c.before.accepted2.ensures (ap (λ (k : ℕ). record { next = k; finished = true }) n) ∙ page.0, page.1)
 
 written-page-requires : tie.Need-written-page-requires
 written-page-requires c κs = (
   (start c.before.before.before.before.before.before.before.before).pre,
-  ap isAccepted (good c.before.before.before.before),
+  ap is_accepted (good c.before.before.before.before),
   c.before.before.before.if3.false,
   sym c.before.before.has-absent.ensures ∙ c.before.if4.false,
 )

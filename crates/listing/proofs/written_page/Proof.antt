@@ -5,18 +5,18 @@ use mathlib.Core.Bool.{false}
 use native.Mathlib.Omega.{arith}
 use lib.ListN.{length, take, drop}
 use Rattle.base.specs.Answers.{front}
-use Rattle.index.specs.Arrays.{Arrays, arrays, textIn}
+use Rattle.index.specs.Arrays.{Arrays, arrays, text_in}
 use Rattle.words.specs.Ready.{Checked}
-use Rattle.words.proofs.Parts.{accepted-checked}
-use Rattle.documents.specs.Documents.{standsIn}
-use Rattle.documents.proofs.Starts.{starts-are}
-use Rattle.pages.specs.Pages.{HitPage, pageOver}
+use Rattle.words.proofs.Parts.{accepted_checked}
+use Rattle.documents.specs.Documents.{stands_in}
+use Rattle.documents.proofs.Starts.{starts_are}
+use Rattle.pages.specs.Pages.{HitPage, page_over}
 use Rattle.paging.specs.Written.{written_of}
-use Rattle.questions.specs.Answering.{phraseIn}
-use Rattle.questions.proofs.Askable.{askable-below}
-use Rattle.questions.proofs.Answered.{PhraseFits, phrase-fits, part_length}
-use Rattle.listing.specs.Paging.{Call, call_of, callPage}
-use Rattle.listing.proofs.Paged.{Accepted, accepted-call, page-of-state, page-written}
+use Rattle.questions.specs.Answering.{phrase_in}
+use Rattle.questions.proofs.Askable.{askable_below}
+use Rattle.questions.proofs.Answered.{PhraseFits, phrase_fits, part_length}
+use Rattle.listing.specs.Paging.{Call, call_of, call_page}
+use Rattle.listing.proofs.Paged.{Accepted, accepted_call, page_of_state, page_written}
 use borrow.Author.Rules.{rules}
 use Rattle.listing.proofs.written_page.Statement.{statement}
 use Rattle.listing.proofs.written_page.Tie as tie
@@ -30,13 +30,13 @@ call_at c = call_of c.args.s c.args.shape (four c) c.args.documents.now c.args.w
 
 -- what the accepted call has passed
 passed : (c : tie.Start) → Accepted (call_at c) c.args.state
-passed c = accepted-call (call_at c) c.args.state c.requires.1
+passed c = accepted_call (call_at c) c.args.state c.requires.1
 
 checked : (c : tie.Start) → Checked c.args.s c.args.shape (four c)
-checked c = accepted-checked c.args.s c.requires.0 c.args.shape (four c) (passed c).index
+checked c = accepted_checked c.args.s c.requires.0 c.args.shape (four c) (passed c).index
 
 fits : (c : tie.Start) → PhraseFits c.args.shape.vocabulary c.args.words.now c.args.start c.args.count
-fits c = phrase-fits c.args.shape.vocabulary c.args.words.now c.args.start c.args.count (passed c).phrase
+fits c = phrase_fits c.args.shape.vocabulary c.args.words.now c.args.start c.args.count (passed c).phrase
 
 -- a slice ends where a number can say it
 far : (c : tie.After-shared-slice-known6) → length c.before.before.before.before.before.before.args.words.now * 4 < 18446744073709551616
@@ -58,18 +58,18 @@ part-write-page-end : tie.Need-slice-bounds-write-page-end
 part-write-page-end c = omega (arith, (fits c.before.before.before.before.before.before.before).inside)
 
 write-page-requires : tie.Need-write-page-requires
-unfolding phraseIn
+unfolding phrase_in
 write-page-requires c κs =
     let st = c.before.before.before.before.before.before.before.before.before in
     let m : st.args.start + st.args.count - st.args.start ≡ st.args.count = omega arith in
     let f = fits st in
-    let n : length (phraseIn st.args.words.now st.args.start st.args.count) ≡ st.args.count = part_length st.args.shape.vocabulary st.args.words.now st.args.start st.args.count f.inside in
+    let n : length (phrase_in st.args.words.now st.args.start st.args.count) ≡ st.args.count = part_length st.args.shape.vocabulary st.args.words.now st.args.start st.args.count f.inside in
     rw m (
       checked st,
       omega (arith, n, f.most),
-      askable-below st.args.shape.vocabulary (phraseIn st.args.words.now st.args.start st.args.count) f.askable st.requires.3,
+      askable_below st.args.shape.vocabulary (phrase_in st.args.words.now st.args.start st.args.count) f.askable st.requires.3,
       (passed st).inside,
-      (starts-are (length (textIn st.args.s (four st))) st.args.documents.now (passed st).starts).ascending,
+      (starts_are (length (text_in st.args.s (four st))) st.args.documents.now (passed st).starts).ascending,
     )
 
 accepted-requires : tie.Need-accepted-requires
@@ -79,15 +79,15 @@ same_length : tie.Need-same-length
 same_length c = search rules
 
 returns : tie.Need-returns
-unfolding phraseIn
+unfolding phrase_in
 returns c =
     let st = c.before.before.before.before.before.before.before.before.before.before.before.before.before in
     let m : st.args.start + st.args.count - st.args.start ≡ st.args.count = omega arith in
-    let t = textIn st.args.s (four st) in
-    let e : pageOver (standsIn st.args.documents.now t (take (st.args.start + st.args.count - st.args.start) (drop st.args.start st.args.words.now))) (length t) (length st.args.lines.now) st.args.state.next false ≡ callPage (call_at st) st.args.state =
-    rw m (sym (page-of-state (call_at st) st.args.state false st.requires.2)) in
+    let t = text_in st.args.s (four st) in
+    let e : page_over (stands_in st.args.documents.now t (take (st.args.start + st.args.count - st.args.start) (drop st.args.start st.args.words.now))) (length t) (length st.args.lines.now) st.args.state.next false ≡ call_page (call_at st) st.args.state =
+    rw m (sym (page_of_state (call_at st) st.args.state false st.requires.2)) in
     rw c.accepted.ensures
-    (page-written (call_at st) st.args.state (passed st).answerIs c.before.before.before.write-page.result _ (c.before.before.before.write-page.ensures.0 ∙ ap written_of e)
+    (page_written (call_at st) st.args.state (passed st).answer_is c.before.before.before.write-page.result _ (c.before.before.before.write-page.ensures.0 ∙ ap written_of e)
     (c.before.before.before.write-page.ensures.1 ∙ ap (λ (x : HitPage). front x.found st.args.lines.now) e))
 
 pub written-page-spec : {M : Type 1} → statement M

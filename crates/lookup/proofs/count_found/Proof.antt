@@ -5,18 +5,18 @@ use mathlib.Core.Logic.{⊎_elim}
 use native.Mathlib.Omega.{arith}
 use borrow.Author.Rules.{rules}
 use lib.ListN.{length, take}
-use Rattle.hashing.specs.HashTables.{indexIn}
-use Rattle.lookup.proofs.Listed.{count-in-hit, count-in-miss, count-in-none}
-use Rattle.lookup.specs.Lookups.{countIn}
+use Rattle.hashing.specs.HashTables.{index_in}
+use Rattle.lookup.proofs.Listed.{count_in_hit, count_in_miss, count_in_none}
+use Rattle.lookup.specs.Lookups.{count_in}
 use Rattle.scanning.proofs.Scans.{Next, next, left_step, some_left, none}
-use Rattle.scanning.specs.Scans.{wordsAt, run_at, startFrom, WordBegins}
+use Rattle.scanning.specs.Scans.{words_at, run_at, start_from, WordBegins}
 use Rattle.lookup.proofs.count_found.Statement.{statement}
 use Rattle.lookup.proofs.count_found.Tie as tie
 
 abbrev invariant-loop : tie.invariant-loop
 invariant-loop table list from count heads links starts text at size start₀ left₀ found₀ start left found =
-    WordBegins table text start × (left ≤ length (wordsAt table text start)) × (found + left ≤ size)
-    × (found + countIn table list from count (take left (wordsAt table text start)) ≡ countIn table list from count (take size (wordsAt table text at)))
+    WordBegins table text start × (left ≤ length (words_at table text start)) × (found + left ≤ size)
+    × (found + count_in table list from count (take left (words_at table text start)) ≡ count_in table list from count (take size (words_at table text at)))
 
 abbrev decreases-loop : tie.decreases-loop
 decreases-loop table list from count heads links starts text at size start₀ left₀ found₀ start left found = left
@@ -29,9 +29,9 @@ next_of c =
     next a.table.now a.text.now loop.start loop.invariant.0 (some_left a.table.now a.text.now loop.start (omega (arith, c.loop-test.true, loop.invariant.1)))
 
 -- the next word begins behind the end of this one
-stepped : (c : tie.After-word-start invariant-loop decreases-loop) → c.word-start.result ≡ startFrom c.before.before.before.before.before.before.before.before.before.before.before.before.args.table.now c.before.before.before.before.before.before.before.before.before.before.before.before.args.text.now
+stepped : (c : tie.After-word-start invariant-loop decreases-loop) → c.word-start.result ≡ start_from c.before.before.before.before.before.before.before.before.before.before.before.before.args.table.now c.before.before.before.before.before.before.before.before.before.before.before.before.args.text.now
     (c.before.before.before.before.before.loop.start + length (run_at c.before.before.before.before.before.before.before.before.before.before.before.before.args.table.now c.before.before.before.before.before.before.before.before.before.before.before.before.args.text.now c.before.before.before.before.before.loop.start))
-stepped c = c.word-start.ensures ∙ ap (startFrom c.before.before.before.before.before.before.before.before.before.before.before.before.args.table.now c.before.before.before.before.before.before.before.before.before.before.before.before.args.text.now) c.before.before.before.scan-word.ensures.0
+stepped c = c.word-start.ensures ∙ ap (start_from c.before.before.before.before.before.before.before.before.before.before.before.before.args.table.now c.before.before.before.before.before.before.before.before.before.before.before.before.args.text.now) c.before.before.before.scan-word.ensures.0
 
 loop-holds : tie.Need-loop-init invariant-loop decreases-loop
 loop-holds c = let start = c.before.before.before.before.before.before in
@@ -61,20 +61,20 @@ loop-again c = let a = c.before.before.before.before.before.before.before.before
     let h : 0 < loop.left = c.before.before.before.before.loop-test.true in
     let n = next_of c.before.before.before.before in
     let s = left_step _ _ _ loop.left n.words h loop.invariant.1 in
-    let e : c.before.before.find.result ≡ indexIn a.table.now a.list.now a.from a.count (run_at a.table.now a.text.now loop.start) = c.before.before.find.ensures in
-    let m = ap (λ (k : ℕ). countIn a.table.now a.list.now a.from a.count (take (loop.left - 1) (wordsAt a.table.now a.text.now k))) (stepped c) in
+    let e : c.before.before.find.result ≡ index_in a.table.now a.list.now a.from a.count (run_at a.table.now a.text.now loop.start) = c.before.before.find.ensures in
+    let m = ap (λ (k : ℕ). count_in a.table.now a.list.now a.from a.count (take (loop.left - 1) (words_at a.table.now a.text.now k))) (stepped c) in
     ⊎_elim
     (λ w. (
       rw (stepped c) n.begun,
       rw (stepped c) s.1,
       omega (arith, w.1, loop.invariant.2),
-      omega (arith, w.1, loop.invariant.3, m, count-in-hit a.table.now a.list.now a.from a.count _ _ _ loop.left n.words h (rw (← e) w.0.taken)),
+      omega (arith, w.1, loop.invariant.3, m, count_in_hit a.table.now a.list.now a.from a.count _ _ _ loop.left n.words h (rw (← e) w.0.taken)),
     ))
     (λ w. (
       rw (stepped c) n.begun,
       rw (stepped c) s.1,
       omega (arith, w.1, loop.invariant.2),
-      omega (arith, w.1, loop.invariant.3, m, count-in-miss a.table.now a.list.now a.from a.count _ _ _ loop.left n.words h (rw (← e) w.0.left)),
+      omega (arith, w.1, loop.invariant.3, m, count_in_miss a.table.now a.list.now a.from a.count _ _ _ loop.left n.words h (rw (← e) w.0.left)),
     ))
     c.before.if1.branch
 
@@ -84,8 +84,8 @@ returns c = let a = c.before.before.before.before.before.before.before.before.ar
     omega (
       arith,
       loop.invariant.3,
-      ap (λ (k : ℕ). countIn a.table.now a.list.now a.from a.count (take k (wordsAt a.table.now a.text.now loop.start))) (none loop.left c.loop-test.false),
-      count-in-none a.table.now a.list.now a.from a.count,
+      ap (λ (k : ℕ). count_in a.table.now a.list.now a.from a.count (take k (words_at a.table.now a.text.now loop.start))) (none loop.left c.loop-test.false),
+      count_in_none a.table.now a.list.now a.from a.count,
     )
 
 pub count-found-spec : {M : Type 1} → statement M

@@ -7,33 +7,33 @@ use native.Mathlib.Omega.{arith}
 use borrow.Author.Rules.{rules}
 use lib.ListN.{length, take, length-drop, drop_of_length-le}
 use Rattle.hashing.specs.HashTables.{Room}
-use Rattle.lexicon.specs.Reading.{TextWord, textWords, spellings}
-use Rattle.lookup.proofs.Listed.{missing-behind, missing-here, missing-split, some-missing}
-use Rattle.lookup.specs.Lookups.{countListed, firstMissing}
-use Rattle.scanning.proofs.Scans.{begins, next, words-first, some_left}
-use Rattle.scanning.specs.Scans.{wordsAt, WordBegins}
+use Rattle.lexicon.specs.Reading.{TextWord, text_words, spellings}
+use Rattle.lookup.proofs.Listed.{missing_behind, missing_here, missing_split, some_missing}
+use Rattle.lookup.specs.Lookups.{count_listed, first_missing}
+use Rattle.scanning.proofs.Scans.{begins, next, words_first, some_left}
+use Rattle.scanning.specs.Scans.{words_at, WordBegins}
 use Rattle.lookup.proofs.first_unlisted.Statement.{statement}
 use Rattle.lookup.proofs.first_unlisted.Tie as tie
 
 abbrev invariant-loop : tie.invariant-loop
 invariant-loop table list words heads₀ links₀ starts₀ text size at₀ left₀ heads links starts at left =
-    WordBegins table text at × (left ≤ length (wordsAt table text at))
-    × (firstMissing (spellings table list) (length text) (wordsAt table text at) ≡ firstMissing (spellings table list) (length text) (textWords table text))
-    × (countListed (spellings table list) (take left (wordsAt table text at)) ≡ left → ⊥) × Room heads links starts
+    WordBegins table text at × (left ≤ length (words_at table text at))
+    × (first_missing (spellings table list) (length text) (words_at table text at) ≡ first_missing (spellings table list) (length text) (text_words table text))
+    × (count_listed (spellings table list) (take left (words_at table text at)) ≡ left → ⊥) × Room heads links starts
 
 abbrev decreases-loop : tie.decreases-loop
 decreases-loop table list words heads₀ links₀ starts₀ text size at₀ left₀ heads links starts at left = left
 
 -- the words from the first on are all
-whole : (c : tie.After-word-start invariant-loop decreases-loop) → wordsAt c.before.before.before.before.before.before.before.args.table.now c.before.before.before.before.before.before.before.args.text.now c.word-start.result ≡ textWords c.before.before.before.before.before.before.before.args.table.now c.before.before.before.before.before.before.before.args.text.now
-whole c = let a = c.before.before.before.before.before.before.before.args in ap (wordsAt a.table.now a.text.now) c.word-start.ensures ∙ sym (words-first a.table.now a.text.now)
+whole : (c : tie.After-word-start invariant-loop decreases-loop) → words_at c.before.before.before.before.before.before.before.args.table.now c.before.before.before.before.before.before.before.args.text.now c.word-start.result ≡ text_words c.before.before.before.before.before.before.before.args.table.now c.before.before.before.before.before.before.before.args.text.now
+whole c = let a = c.before.before.before.before.before.before.before.args in ap (words_at a.table.now a.text.now) c.word-start.ensures ∙ sym (words_first a.table.now a.text.now)
 
 begun-of : (c : tie.After-word-start invariant-loop decreases-loop) → WordBegins c.before.before.before.before.before.before.before.args.table.now c.before.before.before.before.before.before.before.args.text.now c.word-start.result
 begun-of c = let a = c.before.before.before.before.before.before.before.args in rw c.word-start.ensures (begins a.table.now a.text.now 0 (omega arith))
 
 -- all words of the first half are listed
 half-listed : (c : tie.Then2 invariant-loop decreases-loop)
-    → countListed (spellings c.before.before.before.before.before.before.before.before.before.before.before.before.before.before.before.before.before.before.before.before.before.before.before.before.before.before.before.before.before.before.before.args.table.now c.before.before.before.before.before.before.before.before.before.before.before.before.before.before.before.before.before.before.before.before.before.before.before.before.before.before.before.before.before.before.before.args.list.now) (take (c.before.before.before.before.before.before.before.before.before.before.before.before.loop.left / 2) (wordsAt c.before.before.before.before.before.before.before.before.before.before.before.before.before.before.before.before.before.before.before.before.before.before.before.before.before.before.before.before.before.before.before.args.table.now c.before.before.before.before.before.before.before.before.before.before.before.before.before.before.before.before.before.before.before.before.before.before.before.before.before.before.before.before.before.before.before.args.text.now c.before.before.before.before.before.before.before.before.before.before.before.before.loop.at))
+    → count_listed (spellings c.before.before.before.before.before.before.before.before.before.before.before.before.before.before.before.before.before.before.before.before.before.before.before.before.before.before.before.before.before.before.before.args.table.now c.before.before.before.before.before.before.before.before.before.before.before.before.before.before.before.before.before.before.before.before.before.before.before.before.before.before.before.before.before.before.before.args.list.now) (take (c.before.before.before.before.before.before.before.before.before.before.before.before.loop.left / 2) (words_at c.before.before.before.before.before.before.before.before.before.before.before.before.before.before.before.before.before.before.before.before.before.before.before.before.before.before.before.before.before.before.before.args.table.now c.before.before.before.before.before.before.before.before.before.before.before.before.before.before.before.before.before.before.before.before.before.before.before.before.before.before.before.before.before.before.before.args.text.now c.before.before.before.before.before.before.before.before.before.before.before.before.loop.at))
     ≡ c.before.before.before.before.before.before.before.before.before.before.before.before.loop.left / 2
 half-listed c = sym c.before.before.before.before.before.before.before.count-listed2.ensures ∙ c.if2.true
 
@@ -47,18 +47,18 @@ count-listed-requires c κs = let start = c.before.before.before.before.before.b
 returns : tie.Need-returns invariant-loop decreases-loop
 returns c = let start = c.before.before.before.before.before.before.before.before.before.before.before.before.before.before.before.before.before.before in
     let a = start.args in
-    let ws = textWords a.table.now a.text.now in
+    let ws = text_words a.table.now a.text.now in
     let s = spellings a.table.now a.list.now in
-    sym (missing-behind s (length a.text.now) a.size ws (omega (arith, start.requires.3))
-    (ap (λ (vs : List TextWord). countListed s (take a.size vs)) (sym (whole c.before.before.before.before.before.before.before.before.before.before.before)) ∙ sym c.before.before.before.before.before.before.before.count-listed.ensures ∙ c.if1.true)
-    ∙ ap (firstMissing s (length a.text.now)) (drop_of_length-le ws {i = a.size} (omega (arith, start.requires.3))))
+    sym (missing_behind s (length a.text.now) a.size ws (omega (arith, start.requires.3))
+    (ap (λ (vs : List TextWord). count_listed s (take a.size vs)) (sym (whole c.before.before.before.before.before.before.before.before.before.before.before)) ∙ sym c.before.before.before.before.before.before.before.count-listed.ensures ∙ c.if1.true)
+    ∙ ap (first_missing s (length a.text.now)) (drop_of_length-le ws {i = a.size} (omega (arith, start.requires.3))))
 
 loop-holds : tie.Need-loop-init invariant-loop decreases-loop
 loop-holds c = let start = c.before.before.before.before.before.before.before.before.before.before.before.before.before.before.before.before.before.before in
     let a = start.args in (
       begun-of c.before.before.before.before.before.before.before.before.before.before.before,
       omega (arith, start.requires.3, ap length (whole c.before.before.before.before.before.before.before.before.before.before.before)),
-      ap (firstMissing (spellings a.table.now a.list.now) (length a.text.now)) (whole c.before.before.before.before.before.before.before.before.before.before.before),
+      ap (first_missing (spellings a.table.now a.list.now) (length a.text.now)) (whole c.before.before.before.before.before.before.before.before.before.before.before),
       λ q. c.if1.false (c.before.before.before.before.before.before.before.count-listed.ensures ∙ q),
       search rules,
     )
@@ -79,15 +79,15 @@ loop-less c = omega (arith, c.before.before.before.before.before.before.before.b
 loop-again : tie.Need-loop-preserved invariant-loop decreases-loop
 loop-again c = let a = c.before.before.before.before.before.before.before.before.before.before.before.before.before.before.before.before.before.before.before.before.before.before.before.before.before.before.before.before.before.before.before.before.args in
     let loop = c.before.before.before.before.before.before.before.before.before.before.before.before.before.loop in
-    let ws = wordsAt a.table.now a.text.now loop.at in
+    let ws = words_at a.table.now a.text.now loop.at in
     let s = spellings a.table.now a.list.now in
     let e = half-listed c.before in
     let m = c.skip-words.ensures.1 in
     let h : loop.left / 2 ≤ length ws = omega (arith, loop.invariant.1) in (
       c.skip-words.ensures.0,
       omega (arith, loop.invariant.1, ap length m, length-drop (loop.left / 2) ws),
-      ap (firstMissing s (length a.text.now)) m ∙ sym (missing-behind s (length a.text.now) (loop.left / 2) ws h e) ∙ loop.invariant.2,
-      λ q. missing-split s ws loop.left (loop.left / 2) (omega arith) e loop.invariant.3 (ap (λ (vs : List TextWord). countListed s (take (loop.left - loop.left / 2) vs)) (sym m) ∙ q),
+      ap (first_missing s (length a.text.now)) m ∙ sym (missing_behind s (length a.text.now) (loop.left / 2) ws h e) ∙ loop.invariant.2,
+      λ q. missing_split s ws loop.left (loop.left / 2) (omega arith) e loop.invariant.3 (ap (λ (vs : List TextWord). count_listed s (take (loop.left - loop.left / 2) vs)) (sym m) ∙ q),
       search rules,
     )
 
@@ -101,12 +101,12 @@ loop-again-2 c = let loop = c.before.before.before.before.before.before.before.b
 returns-2 : tie.Need-returns-2 invariant-loop decreases-loop
 returns-2 c = let a = c.before.before.before.before.before.before.before.before.before.before.before.before.before.before.before.before.before.before.before.before.args in
     let loop = c.before.loop in
-    let ws = wordsAt a.table.now a.text.now loop.at in
+    let ws = words_at a.table.now a.text.now loop.at in
     let s = spellings a.table.now a.list.now in
-    let p : 0 < loop.left = some-missing s ws loop.left loop.invariant.3 in
+    let p : 0 < loop.left = some_missing s ws loop.left loop.invariant.3 in
     let o : loop.left ≡ 1 = omega (arith, c.loop-test.false) in
     let n = next a.table.now a.text.now loop.at loop.invariant.0 (some_left a.table.now a.text.now loop.at (omega (arith, loop.invariant.1))) in
-    sym (missing-here s (length a.text.now) ws _ _ n.words (λ q. loop.invariant.3 (ap (λ (k : ℕ). countListed s (take k ws)) o ∙ q ∙ sym o))) ∙ loop.invariant.2
+    sym (missing_here s (length a.text.now) ws _ _ n.words (λ q. loop.invariant.3 (ap (λ (k : ℕ). count_listed s (take k ws)) o ∙ q ∙ sym o))) ∙ loop.invariant.2
 
 same_length : tie.Need-same-length invariant-loop decreases-loop
 same_length c = search rules

@@ -6,7 +6,7 @@ use native.Mathlib.Omega.{arith}
 use borrow.Author.Rules.{rules}
 use lib.ListN.{length, get_or}
 use Rattle.base.proofs.Tests.{below_or_not}
-use Rattle.phrases.proofs.Standing.{stands-yes, stands-other}
+use Rattle.phrases.proofs.Standing.{stands_yes, stands_other}
 use Rattle.matching.proofs.bytes_stand.Statement.{statement}
 use Rattle.matching.proofs.bytes_stand.Tie as tie
 
@@ -32,7 +32,7 @@ shared-slice-read-if1-2 c = search rules
 returns : tie.Need-returns invariant-loop decreases-loop
 returns c =
     let st = c.before.before.before.before.before in
-    sym (stands-other st.args.bytes.now st.args.firsts.now st.args.at.0 c.before.before.before.before.loop.i (omega arith) c.if1.true)
+    sym (stands_other st.args.bytes.now st.args.firsts.now st.args.at.0 c.before.before.before.before.loop.i (omega arith) c.if1.true)
 
 add-i : tie.Need-overflow-add-i invariant-loop decreases-loop
 add-i c = search rules
@@ -48,7 +48,7 @@ loop-again c =
 returns-2 : tie.Need-returns-2 invariant-loop decreases-loop
 returns-2 c =
     let st = c.before.before in
-    sym (stands-yes st.args.bytes.now st.args.firsts.now st.args.at.0 (omega (arith, st.requires)) (λ k h. c.before.loop.invariant.1 k (omega arith)))
+    sym (stands_yes st.args.bytes.now st.args.firsts.now st.args.at.0 (omega (arith, st.requires)) (λ k h. c.before.loop.invariant.1 k (omega arith)))
 
 pub bytes-stand-spec : {M : Type 1} → statement M
 bytes-stand-spec =

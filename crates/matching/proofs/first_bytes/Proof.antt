@@ -7,23 +7,23 @@ use borrow.Author.Rules.{rules}
 use lib.ListN.{length, get_or, take, length-set}
 use lib.Seq.{take_all}
 use Rattle.base.specs.Answers.{front}
-use Rattle.base.proofs.Lists.{all-at}
-use Rattle.base.proofs.Fronts.{front-none, front-next}
-use Rattle.dense.specs.Code.{maxVocabulary}
-use Rattle.matching.specs.Searching.{firstBytes}
-use Rattle.matching.proofs.FirstBytes.{encoded-first, first-bytes-length, first-byte-at}
+use Rattle.base.proofs.Lists.{all_at}
+use Rattle.base.proofs.Fronts.{front_none, front_next}
+use Rattle.dense.specs.Code.{max_vocabulary}
+use Rattle.matching.specs.Searching.{first_bytes}
+use Rattle.matching.proofs.FirstBytes.{encoded_first, first_bytes_length, first_byte_at}
 use Rattle.matching.proofs.first_bytes.Statement.{statement}
 use Rattle.matching.proofs.first_bytes.Tie as tie
 
 -- the table has in front the first bytes of the words before i
 abbrev invariant-loop : tie.invariant-loop
-invariant-loop s words table₀ i₀ table i = (i ≤ length words) × (table ≡ front (take i (firstBytes s words)) table₀) × (length table ≡ length table₀)
+invariant-loop s words table₀ i₀ table i = (i ≤ length words) × (table ≡ front (take i (first_bytes s words)) table₀) × (length table ≡ length table₀)
 
 abbrev decreases-loop : tie.decreases-loop
 decreases-loop s words table₀ i₀ table i = length words - i
 
 loop-holds : tie.Need-loop-init invariant-loop decreases-loop
-loop-holds c = (omega arith, sym (front-none c.before.before.args.table.now), refl)
+loop-holds c = (omega arith, sym (front_none c.before.before.args.table.now), refl)
 
 mul-encode : tie.Need-overflow-mul-encode invariant-loop decreases-loop
 mul-encode c = search rules
@@ -37,7 +37,7 @@ cast-encode c = omega (arith, c.shared-slice-known2.given c.before.before.loop.i
 encode-requires : tie.Need-encode-requires invariant-loop decreases-loop
 encode-requires c κs =
     let st = c.before.before.before.before.before in
-    (st.requires.0, all-at (λ (x : ℕ). x < maxVocabulary st.args.s) st.args.words.now 0 c.before.before.loop.i st.requires.1 (omega arith))
+    (st.requires.0, all_at (λ (x : ℕ). x < max_vocabulary st.args.s) st.args.words.now 0 c.before.before.loop.i st.requires.1 (omega arith))
 
 slice-write-table : tie.Need-slice-write-table invariant-loop decreases-loop
 slice-write-table c = omega (arith, c.before.before.before.before.before.before.requires.2)
@@ -53,10 +53,10 @@ loop-again c =
     let st = c.before.before.before.before.before.before in
     let l = c.before.before.before.loop in
     let w = get_or st.args.words.now l.i 0 in
-    let here : c.encode.result.first ≡ get_or (firstBytes st.args.s st.args.words.now) l.i 0 =
-    encoded-first st.args.s w c.encode.result c.encode.ensures.0 c.encode.ensures.1 ∙ sym (first-byte-at st.args.s st.args.words.now l.i (omega arith)) in (
+    let here : c.encode.result.first ≡ get_or (first_bytes st.args.s st.args.words.now) l.i 0 =
+    encoded_first st.args.s w c.encode.result c.encode.ensures.0 c.encode.ensures.1 ∙ sym (first_byte_at st.args.s st.args.words.now l.i (omega arith)) in (
       omega arith,
-      rw (l.invariant.1, here) (front-next (firstBytes st.args.s st.args.words.now) st.args.table.now l.i (omega (arith, first-bytes-length st.args.s st.args.words.now)) (omega (arith, st.requires.2))),
+      rw (l.invariant.1, here) (front_next (first_bytes st.args.s st.args.words.now) st.args.table.now l.i (omega (arith, first_bytes_length st.args.s st.args.words.now)) (omega (arith, st.requires.2))),
       length-set l.table l.i c.encode.result.first ∙ l.invariant.2,
     )
 
@@ -67,7 +67,7 @@ returns : tie.Need-returns invariant-loop decreases-loop
 returns c =
     let st = c.before.before.before.before in
     let l = c.before.loop in
-    l.invariant.1 ∙ ap (λ (xs : List ℕ). front xs st.args.table.now) (take_all l.i (firstBytes st.args.s st.args.words.now) (omega (arith, first-bytes-length st.args.s st.args.words.now)))
+    l.invariant.1 ∙ ap (λ (xs : List ℕ). front xs st.args.table.now) (take_all l.i (first_bytes st.args.s st.args.words.now) (omega (arith, first_bytes_length st.args.s st.args.words.now)))
 
 pub first-bytes-spec : {M : Type 1} → statement M
 first-bytes-spec =

@@ -8,11 +8,11 @@ use native.Mathlib.Omega.{arith}
 use borrow.Author.Rules.{rules}
 use lib.IntN.{ℤ}
 use lib.ListN.{length, get_or}
-use Rattle.index.specs.Arrays.{arrays, textIn}
-use Rattle.documents.specs.Documents.{neighbourIn}
+use Rattle.index.specs.Arrays.{arrays, text_in}
+use Rattle.documents.specs.Documents.{neighbour_in}
 use Rattle.matching.specs.declared.Sought.{Sought}
 use Rattle.matching.specs.declared.Sought.TheVariants.{Pair}
-use Rattle.matching.specs.Sought.{hitIn}
+use Rattle.matching.specs.Sought.{hit_in}
 use Rattle.matching.specs.Searching.{Paired}
 use Rattle.matching.proofs.hit_at.Statement.{statement}
 use Rattle.matching.proofs.hit_at.Tie as tie
@@ -41,19 +41,19 @@ pair-at-requires c κs =
 returns : tie.Need-returns
 returns c =
     let st = c.before.before.before.before.before.before.before.before.before.before.before in
-    let t = textIn st.args.s (arrays st.args.lengths.now st.args.bytes.now st.args.superblocks.now st.args.blocks.now) in
-    c.stands_at.ensures ∙ ap (λ (x : Sought). hitIn st.args.documents.now t st.args.words.now x st.args.place.0) (sym c.before.enum_told.given.1)
+    let t = text_in st.args.s (arrays st.args.lengths.now st.args.bytes.now st.args.superblocks.now st.args.blocks.now) in
+    c.stands_at.ensures ∙ ap (λ (x : Sought). hit_in st.args.documents.now t st.args.words.now x st.args.place.0) (sym c.before.enum_told.given.1)
 
 returns-2 : tie.Need-returns-2
 returns-2 c =
     let st = c.before.before.before.before.before.before.before.before.before.before.before.before in
     let known = c.before.before.sought.given in
     let told = c.before.known-told.given in
-    let t = textIn st.args.s (arrays st.args.lengths.now st.args.bytes.now st.args.superblocks.now st.args.blocks.now) in
+    let t = text_in st.args.s (arrays st.args.lengths.now st.args.bytes.now st.args.superblocks.now st.args.blocks.now) in
     let ws = st.args.words.now in
     c.pair-at.ensures
-    ∙ ap (λ (z : ℤ). neighbourIn st.args.documents.now t (get_or ws 0 0) (get_or ws 1 0) z st.args.place.0) (to_z-of_z {w = w32} {z = known.0.0} (record { sfits = told.0.1 }))
-    ∙ sym (ap (λ (x : Sought). hitIn st.args.documents.now t ws x st.args.place.0) known.1)
+    ∙ ap (λ (z : ℤ). neighbour_in st.args.documents.now t (get_or ws 0 0) (get_or ws 1 0) z st.args.place.0) (to_z-of_z {w = w32} {z = known.0.0} (record { sfits = told.0.1 }))
+    ∙ sym (ap (λ (x : Sought). hit_in st.args.documents.now t ws x st.args.place.0) known.1)
 
 pub hit-at-spec : {M : Type 1} → statement M
 hit-at-spec =

@@ -10,27 +10,27 @@ use borrow.Author.Tests.{eqb-true, eqb-false, not-true, not-false}
 use lib.IntN.{ℤ, pos, ◌+ℤ◌, nat_abs}
 use lib.ListN.{length, get_or}
 use Rattle.base.proofs.Tests.{false_of, and_right}
-use Rattle.index.specs.Arrays.{arrays, textIn}
-use Rattle.phrases.specs.Neighbours.{standsAt, neighbourAt}
-use Rattle.phrases.proofs.Neighbours.{neighbour-anchored, neighbour-test}
-use Rattle.documents.specs.Documents.{sameDocument, neighbourIn}
-use Rattle.matching.proofs.FirstBytes.{first-bytes-length, first-byte-at}
+use Rattle.index.specs.Arrays.{arrays, text_in}
+use Rattle.phrases.specs.Neighbours.{stands_at, neighbour_at}
+use Rattle.phrases.proofs.Neighbours.{neighbour_anchored, neighbour_test}
+use Rattle.documents.specs.Documents.{same_document, neighbour_in}
+use Rattle.matching.proofs.FirstBytes.{first_bytes_length, first_byte_at}
 use Rattle.matching.proofs.pair_at.Statement.{statement}
 use Rattle.matching.proofs.pair_at.Tie as tie
 
 -- where the first word does not stand, neither does the pair
-differs : (documents t : List ℕ) (w v : ℕ) (d : ℤ) (q : ℕ) → (get_or t q 0 ≡ w → ⊥) → neighbourIn documents t w v d q ≡ false
-unfolding neighbourIn
+differs : (documents t : List ℕ) (w v : ℕ) (d : ℤ) (q : ℕ) → (get_or t q 0 ≡ w → ⊥) → neighbour_in documents t w v d q ≡ false
+unfolding neighbour_in
 differs documents t w v d q n =
-    false_of (neighbourIn documents t w v d q) (λ e.
+    false_of (neighbour_in documents t w v d q) (λ e.
     let z : q + 0 ≡ q = omega arith in
-    n (rw z at ((neighbour-anchored t w v d).word q (and_right (sameDocument documents q (nat_abs (pos q +ℤ d))) (neighbourAt t w v d q) e))))
+    n (rw z at ((neighbour_anchored t w v d).word q (and_right (same_document documents q (nat_abs (pos q +ℤ d))) (neighbour_at t w v d q) e))))
 
 -- where it does, the second at the offset decides, in the same document
 decides : (documents t : List ℕ) (w v : ℕ) (d : ℤ) (q : ℕ) → q < length t → get_or t q 0 ≡ w
-    → sameDocument documents q (nat_abs (pos q +ℤ d)) && standsAt t v (pos q +ℤ d) ≡ neighbourIn documents t w v d q
-unfolding neighbourIn
-decides documents t w v d q h e = ap (λ (b : Bool). sameDocument documents q (nat_abs (pos q +ℤ d)) && b) (sym (neighbour-test t w v d q h e))
+    → same_document documents q (nat_abs (pos q +ℤ d)) && stands_at t v (pos q +ℤ d) ≡ neighbour_in documents t w v d q
+unfolding neighbour_in
+decides documents t w v d q h e = ap (λ (b : Bool). same_document documents q (nat_abs (pos q +ℤ d)) && b) (sym (neighbour_test t w v d q h e))
 
 shared-slice-read-first : tie.Need-shared-slice-read-first
 shared-slice-read-first c = search rules
@@ -47,14 +47,14 @@ start c = c.before.before.before.before.before.before.before.before.before.befor
 returns : tie.Need-returns
 returns c =
     let st = start c.before in
-    let t = textIn st.args.s (arrays st.args.lengths.now st.args.bytes.now st.args.superblocks.now st.args.blocks.now) in
+    let t = text_in st.args.s (arrays st.args.lengths.now st.args.bytes.now st.args.superblocks.now st.args.blocks.now) in
     let ws = st.args.words.now in
     sym (differs st.args.documents.now t (get_or ws 0 0) (get_or ws 1 0) st.args.offset st.args.place.0 (eqb-false _ _ (sym c.before.agrees_at.ensures ∙ not-true c.before.agrees_at.result c.if1.true)))
 
 shared-slice-read-neighbour-at : tie.Need-shared-slice-read-neighbour-at
 shared-slice-read-neighbour-at c =
     let st = start c.before.before in
-    omega (arith, st.pre.1, ap length st.pre.0.firsts-are, first-bytes-length st.args.s st.args.words.now)
+    omega (arith, st.pre.1, ap length st.pre.0.firsts_are, first_bytes_length st.args.s st.args.words.now)
 
 shared-slice-read-neighbour-at-2 : tie.Need-shared-slice-read-neighbour-at-2
 shared-slice-read-neighbour-at-2 c = search rules
@@ -67,17 +67,17 @@ neighbour-at-requires c κs =
     let st = start c.before.before.before in (
       st.pre.0.searchable.ready,
       st.pre.2,
-      ap (λ (x : List ℕ). get_or x 1 0) st.pre.0.firsts-are ∙ first-byte-at st.args.s st.args.words.now 1 (omega (arith, st.pre.1)),
+      ap (λ (x : List ℕ). get_or x 1 0) st.pre.0.firsts_are ∙ first_byte_at st.args.s st.args.words.now 1 (omega (arith, st.pre.1)),
       st.pre.3,
     )
 
 returns-2 : tie.Need-returns-2
 returns-2 c =
     let st = start c.before.before.before.before in
-    let t = textIn st.args.s (arrays st.args.lengths.now st.args.bytes.now st.args.superblocks.now st.args.blocks.now) in
+    let t = text_in st.args.s (arrays st.args.lengths.now st.args.bytes.now st.args.superblocks.now st.args.blocks.now) in
     let ws = st.args.words.now in
     c.neighbour-at.ensures
-    ∙ ap (λ (z : ℤ). sameDocument st.args.documents.now st.args.place.0 (nat_abs (pos st.args.place.0 +ℤ z)) && standsAt t (get_or ws 1 0) (pos st.args.place.0 +ℤ z)) (to_z-of_z st.fits.offset)
+    ∙ ap (λ (z : ℤ). same_document st.args.documents.now st.args.place.0 (nat_abs (pos st.args.place.0 +ℤ z)) && stands_at t (get_or ws 1 0) (pos st.args.place.0 +ℤ z)) (to_z-of_z st.fits.offset)
     ∙ decides st.args.documents.now t (get_or ws 0 0) (get_or ws 1 0) st.args.offset st.args.place.0 st.pre.2 (eqb-true _ _ (sym c.before.before.before.before.agrees_at.ensures ∙ not-false c.before.before.before.before.agrees_at.result c.before.before.before.if1.false))
 
 pub pair-at-spec : {M : Type 1} → statement M

@@ -8,21 +8,21 @@ use borrow.Author.Tests.{not-true, not-false}
 use borrow.Author.Rules.{rules}
 use lib.ListN.{length}
 use Rattle.tree.specs.declared.Position.{Position}
-use Rattle.index.specs.Arrays.{arrays, textIn}
+use Rattle.index.specs.Arrays.{arrays, text_in}
 use Rattle.phrases.specs.Phrases.{stands}
-use Rattle.documents.proofs.Inside.{past-in, apart_in, nowhere-in, together-in}
-use Rattle.words.proofs.Parts.{checked-some}
-use Rattle.words.proofs.Positions.{text-most, root-inside}
-use Rattle.matching.proofs.FirstBytes.{first-bytes-length, first-bytes-differ}
+use Rattle.documents.proofs.Inside.{past_in, apart_in, nowhere_in, together_in}
+use Rattle.words.proofs.Parts.{checked_some}
+use Rattle.words.proofs.Positions.{text_most, root_inside}
+use Rattle.matching.proofs.FirstBytes.{first_bytes_length, first_bytes_differ}
 use Rattle.matching.proofs.stands_at.Statement.{statement}
 use Rattle.matching.proofs.stands_at.Tie as tie
 
 text-length-requires : tie.Need-text-length-requires
-text-length-requires c κs = checked-some c.before.before.before.before.before.before.before.before.requires.0.searchable.ready.checked
+text-length-requires c κs = checked_some c.before.before.before.before.before.before.before.before.requires.0.searchable.ready.checked
 
 -- the text, and its length as it is read
 abbrev text : tie.Start → List ℕ
-text st = textIn st.args.s (arrays st.args.lengths.now st.args.bytes.now st.args.superblocks.now st.args.blocks.now)
+text st = text_in st.args.s (arrays st.args.lengths.now st.args.bytes.now st.args.superblocks.now st.args.blocks.now)
 
 abbrev start : tie.After-text-length → tie.Start
 start c = c.before.before.before.before.before.before.before.before.before
@@ -33,12 +33,12 @@ size c = c.text-length.ensures.1 _ _ _ _ _ (start c).requires.0.searchable.ready
 add-if1 : tie.Need-overflow-add-if1
 add-if1 c =
     let st = start c.before in
-    omega (arith, st.pre.0.searchable.most, st.pre.1, text-most st.pre.0.searchable.ready.checked)
+    omega (arith, st.pre.0.searchable.most, st.pre.1, text_most st.pre.0.searchable.ready.checked)
 
 returns : tie.Need-returns
 returns c =
     let st = start c.before.before in
-    sym (past-in st.args.documents.now (text st) st.args.words.now st.args.place.0 (omega (arith, size c.before.before)))
+    sym (past_in st.args.documents.now (text st) st.args.words.now st.args.place.0 (omega (arith, size c.before.before)))
 
 root-position-requires : tie.Need-root-position-requires
 root-position-requires c κs = search rules
@@ -54,9 +54,9 @@ bytes-stand-requires c κs =
       arith,
       at_place c,
       size c.before.before.before,
-      root-inside st.pre.0.searchable.ready.checked,
-      ap length st.pre.0.firsts-are,
-      first-bytes-length st.args.s st.args.words.now,
+      root_inside st.pre.0.searchable.ready.checked,
+      ap length st.pre.0.firsts_are,
+      first_bytes_length st.args.s st.args.words.now,
     )
 
 returns-2 : tie.Need-returns-2
@@ -64,12 +64,12 @@ returns-2 c =
     let st = start c.before.before.before.before.before in
     let e : stands st.args.bytes.now st.args.firsts.now st.args.place.0 ≡ false =
     ap (stands st.args.bytes.now st.args.firsts.now) (sym (at_place c.before.before)) ∙ sym c.before.bytes-stand.ensures ∙ not-true c.before.bytes-stand.result c.if2.true in
-    sym (nowhere-in st.args.documents.now (text st) st.args.words.now st.args.place.0 (first-bytes-differ st.pre.0.searchable.ready st.args.words.now st.args.place.0 (ap (λ (x : List ℕ). stands st.args.bytes.now x st.args.place.0) (sym st.pre.0.firsts-are) ∙ e)))
+    sym (nowhere_in st.args.documents.now (text st) st.args.words.now st.args.place.0 (first_bytes_differ st.pre.0.searchable.ready st.args.words.now st.args.place.0 (ap (λ (x : List ℕ). stands st.args.bytes.now x st.args.place.0) (sym st.pre.0.firsts_are) ∙ e)))
 
 in-one-document-requires : tie.Need-in-one-document-requires
 in-one-document-requires c κs =
     let st = start c.before.before.before.before.before in
-    (st.pre.2, omega (arith, size c.before.before.before.before.before, text-most st.pre.0.searchable.ready.checked))
+    (st.pre.2, omega (arith, size c.before.before.before.before.before, text_most st.pre.0.searchable.ready.checked))
 
 returns-3 : tie.Need-returns-3
 returns-3 c =
@@ -86,7 +86,7 @@ returns-4 : tie.Need-returns-4
 returns-4 c =
     let st = start c.before.before.before.before.before.before.before.before in
     c.words-stand.ensures
-    ∙ sym (together-in st.args.documents.now (text st) st.args.words.now st.args.place.0
+    ∙ sym (together_in st.args.documents.now (text st) st.args.words.now st.args.place.0
     (sym c.before.before.in-one-document.ensures ∙ not-false c.before.before.in-one-document.result c.before.if3.false))
 
 pub stands-at-spec : {M : Type 1} → statement M

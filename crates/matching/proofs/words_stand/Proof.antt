@@ -7,15 +7,15 @@ use borrow.Author.Tests.{eqb-true, eqb-false, not-true, not-false}
 use borrow.Author.Rules.{rules}
 use lib.ListN.{length, get_or}
 use Rattle.base.proofs.Tests.{below_or_not}
-use Rattle.phrases.proofs.Standing.{stands-yes, stands-other}
-use Rattle.words.proofs.Positions.{text-most}
-use Rattle.index.specs.Arrays.{arrays, textIn}
+use Rattle.phrases.proofs.Standing.{stands_yes, stands_other}
+use Rattle.words.proofs.Positions.{text_most}
+use Rattle.index.specs.Arrays.{arrays, text_in}
 use Rattle.matching.proofs.words_stand.Statement.{statement}
 use Rattle.matching.proofs.words_stand.Tie as tie
 
 -- the words before i are those from the place on
 abbrev invariant-loop : tie.invariant-loop
-invariant-loop s shape lengths bytes superblocks blocks starts words place i₀ i = (i ≤ length words) × ((k : ℕ) → k < i → get_or (textIn s (arrays lengths bytes superblocks blocks)) (place.0 + k) 0 ≡ get_or words k 0)
+invariant-loop s shape lengths bytes superblocks blocks starts words place i₀ i = (i ≤ length words) × ((k : ℕ) → k < i → get_or (text_in s (arrays lengths bytes superblocks blocks)) (place.0 + k) 0 ≡ get_or words k 0)
 
 abbrev decreases-loop : tie.decreases-loop
 decreases-loop s shape lengths bytes superblocks blocks starts words place i₀ i = length words - i
@@ -35,7 +35,7 @@ cast-w c = omega (arith, c.shared-slice-known7.given c.before.before.loop.i)
 add-t13 : tie.Need-overflow-add-t13 invariant-loop decreases-loop
 add-t13 c =
     let st = c.before.before.before.before.before.before.before.before.before.before in
-    omega (arith, st.requires.1, text-most st.requires.0.checked)
+    omega (arith, st.requires.1, text_most st.requires.0.checked)
 
 agrees-at-requires : tie.Need-agrees-at-requires invariant-loop decreases-loop
 agrees-at-requires c κs =
@@ -45,8 +45,8 @@ agrees-at-requires c κs =
 returns : tie.Need-returns invariant-loop decreases-loop
 returns c =
     let st = c.before.before.before.before.before.before.before.before.before.before.before.before in
-    let t = textIn st.args.s (arrays st.args.lengths.now st.args.bytes.now st.args.superblocks.now st.args.blocks.now) in
-    sym (stands-other t st.args.words.now st.args.place.0 c.before.before.before.before.before.loop.i (omega arith) (eqb-false _ _ (sym c.before.agrees_at.ensures ∙ not-true c.before.agrees_at.result c.if1.true)))
+    let t = text_in st.args.s (arrays st.args.lengths.now st.args.bytes.now st.args.superblocks.now st.args.blocks.now) in
+    sym (stands_other t st.args.words.now st.args.place.0 c.before.before.before.before.before.loop.i (omega arith) (eqb-false _ _ (sym c.before.agrees_at.ensures ∙ not-true c.before.agrees_at.result c.if1.true)))
 
 add-i : tie.Need-overflow-add-i invariant-loop decreases-loop
 add-i c = search rules
@@ -62,8 +62,8 @@ loop-again c =
 returns-2 : tie.Need-returns-2 invariant-loop decreases-loop
 returns-2 c =
     let st = c.before.before.before.before.before.before.before.before in
-    let t = textIn st.args.s (arrays st.args.lengths.now st.args.bytes.now st.args.superblocks.now st.args.blocks.now) in
-    sym (stands-yes t st.args.words.now st.args.place.0 st.requires.1 (λ k h. c.before.loop.invariant.1 k (omega arith)))
+    let t = text_in st.args.s (arrays st.args.lengths.now st.args.bytes.now st.args.superblocks.now st.args.blocks.now) in
+    sym (stands_yes t st.args.words.now st.args.place.0 st.requires.1 (λ k h. c.before.loop.invariant.1 k (omega arith)))
 
 pub words-stand-spec : {M : Type 1} → statement M
 words-stand-spec =

@@ -6,16 +6,16 @@ use borrow.Author.Rules.{rules}
 use Rattle.base.specs.declared.Answer.{Answer}
 use Rattle.base.specs.Answers.{accepted, refused}
 use Rattle.base.specs.Texts.{outside}
-use Rattle.dense.specs.Code.{maxVocabulary}
-use Rattle.index.proofs.Refusals.{limits-zero, vocabulary-outside, vocabulary-inside, blocks-outside, text-vocabulary, text-words, text-blocks}
-use Rattle.measuring.specs.Sizes.{measureAnswer}
-use Rattle.measuring.proofs.Passes.{refuses-by}
+use Rattle.dense.specs.Code.{max_vocabulary}
+use Rattle.index.proofs.Refusals.{limits_zero, vocabulary_outside, vocabulary_inside, blocks_outside_lem, text_vocabulary, text_words_lem, text_blocks}
+use Rattle.measuring.specs.Sizes.{measure_answer}
+use Rattle.measuring.proofs.Passes.{refuses_by}
 use Rattle.measuring.proofs.limits_answer.Statement.{statement}
 use Rattle.measuring.proofs.limits_answer.Tie as tie
 
 -- past the first test, V is within its limits
-vocabulary-tested : (c : tie.Else1) → outside 1 (maxVocabulary c.before.before.before.args.s) c.before.before.before.args.shape.vocabulary ≡ false
-vocabulary-tested c = vocabulary-inside c.before.before.before.args.s c.before.before.before.args.shape (λ e. c.if1.false (c.before.limits-refusal.ensures ∙ e))
+vocabulary-tested : (c : tie.Else1) → outside 1 (max_vocabulary c.before.before.before.args.s) c.before.before.before.args.shape.vocabulary ≡ false
+vocabulary-tested c = vocabulary_inside c.before.before.before.args.s c.before.before.before.args.shape (λ e. c.if1.false (c.before.limits-refusal.ensures ∙ e))
 
 limits-refusal-requires : tie.Need-limits-refusal-requires
 limits-refusal-requires c κs = search rules
@@ -24,37 +24,37 @@ refused-requires : tie.Need-refused-requires
 refused-requires c κs = search rules
 
 returns : tie.Need-returns
-unfolding measureAnswer
+unfolding measure_answer
 returns c = let a = c.before.before.before.before.args in
-    refuses-by a.s a.shape a.text.now 1 0 (omega arith) c.refused.ensures
-    (text-vocabulary a.s a.shape a.text.now (accepted 0) (vocabulary-outside a.s a.shape (sym c.before.before.limits-refusal.ensures ∙ c.before.if1.true)))
+    refuses_by a.s a.shape a.text.now 1 0 (omega arith) c.refused.ensures
+    (text_vocabulary a.s a.shape a.text.now (accepted 0) (vocabulary_outside a.s a.shape (sym c.before.before.limits-refusal.ensures ∙ c.before.if1.true)))
 
 refused-requires-2 : tie.Need-refused-requires-2
 refused-requires-2 c κs = search rules
 
 returns-2 : tie.Need-returns-2
-unfolding measureAnswer
+unfolding measure_answer
 returns-2 c = let a = c.before.before.before.before.before.args in
-    refuses-by a.s a.shape a.text.now 2 0 (omega arith) c.refused2.ensures
-    (text-words a.s a.shape a.text.now (accepted 0) (vocabulary-tested c.before.before) c.before.if2.true)
+    refuses_by a.s a.shape a.text.now 2 0 (omega arith) c.refused2.ensures
+    (text_words_lem a.s a.shape a.text.now (accepted 0) (vocabulary-tested c.before.before) c.before.if2.true)
 
 refused-requires-3 : tie.Need-refused-requires-3
 refused-requires-3 c κs = search rules
 
 returns-3 : tie.Need-returns-3
-unfolding measureAnswer
+unfolding measure_answer
 returns-3 c = let a = c.before.before.before.before.before.before.args in
     let refusal = c.before.before.before.before.limits-refusal.ensures in
-    refuses-by a.s a.shape a.text.now 3 0 (omega arith) c.refused3.ensures
-    (text-blocks a.s a.shape a.text.now (accepted 0) (vocabulary-tested c.before.before.before) c.before.before.if2.false
-    (blocks-outside a.s a.shape (λ e. c.before.before.before.if1.false (refusal ∙ e)) (λ e. c.before.if3.true (refusal ∙ e))))
+    refuses_by a.s a.shape a.text.now 3 0 (omega arith) c.refused3.ensures
+    (text_blocks a.s a.shape a.text.now (accepted 0) (vocabulary-tested c.before.before.before) c.before.before.if2.false
+    (blocks_outside_lem a.s a.shape (λ e. c.before.before.before.if1.false (refusal ∙ e)) (λ e. c.before.if3.true (refusal ∙ e))))
 
 accepted-requires : tie.Need-accepted-requires
 accepted-requires c κs = search rules
 
 returns-4 : tie.Need-returns-4
 returns-4 c = let a = c.before.before.before.before.before.before.args in
-    let within = limits-zero a.s a.shape (sym c.before.before.before.before.limits-refusal.ensures ∙ c.before.if3.false) in
+    let within = limits_zero a.s a.shape (sym c.before.before.before.before.limits-refusal.ensures ∙ c.before.if3.false) in
     record { refuses = λ n. absurd (n (ap (λ (r : Answer). r.refusal) c.accepted.ensures)); accepts = λ _. c.accepted.ensures; limits = λ _. within; words = λ _. c.before.before.if2.false }
 
 pub limits-answer-spec : {M : Type 1} → statement M

@@ -8,17 +8,17 @@ use borrow.Author.Rules.{rules}
 use lib.Dec.{leb}
 use lib.ListN.{length, take, drop, length-take}
 use lib.Seq.{take_all}
-use Rattle.base.specs.Lists.{firstWhere}
+use Rattle.base.specs.Lists.{first_where}
 use Rattle.dense.specs.Streams.{stream}
-use Rattle.dense.proofs.Streams.{stream-none, stream-most}
-use Rattle.measuring.proofs.Passes.{part_length, stream-part, first-in-part, first-behind-part, first-at-end}
+use Rattle.dense.proofs.Streams.{stream_none, stream_most}
+use Rattle.measuring.proofs.Passes.{part_length, stream_part, first_in_part, first_behind_part, first_at_end}
 use Rattle.measuring.proofs.pass_ranks.Statement.{statement}
 use Rattle.measuring.proofs.pass_ranks.Tie as tie
 
 abbrev invariant-loop : tie.invariant-loop
 invariant-loop s vocabulary text bytes₀ at₀ bytes at =
     (at ≤ length text)
-    × (firstWhere (λ (w : ℕ). leb vocabulary w) text ≡ at + firstWhere (λ (w : ℕ). leb vocabulary w) (drop at text))
+    × (first_where (λ (w : ℕ). leb vocabulary w) text ≡ at + first_where (λ (w : ℕ). leb vocabulary w) (drop at text))
     × (bytes ≡ length (stream s (take at text)))
 
 abbrev decreases-loop : tie.decreases-loop
@@ -32,10 +32,10 @@ ends c = (omega (arith, c.least.ensures), omega (arith, c.least.ensures))
 counted : (c : tie.After-stream-length invariant-loop decreases-loop) → c.before.before.before.before.before.before.before.loop.bytes + c.stream-length.result ≡ length (stream c.before.before.before.before.before.before.before.before.before.args.s (take c.before.before.before.before.before.least.result c.before.before.before.before.before.before.before.before.before.args.text.now))
 counted c = let start = c.before.before.before.before.before.before.before.before.before in
     let e = ends c.before.before.before.before.before in
-    rw (c.before.before.before.before.before.before.before.loop.invariant.2, c.stream-length.ensures) (stream-part start.args.text.now c.before.before.before.before.before.before.before.loop.at c.before.before.before.before.before.least.result e.0 e.1 start.args.s)
+    rw (c.before.before.before.before.before.before.before.loop.invariant.2, c.stream-length.ensures) (stream_part start.args.text.now c.before.before.before.before.before.before.before.loop.at c.before.before.before.before.before.least.result e.0 e.1 start.args.s)
 
 loop-holds : tie.Need-loop-init invariant-loop decreases-loop
-loop-holds c = (omega arith, omega arith, sym (ap length (stream-none c.before.args.s)))
+loop-holds c = (omega arith, omega arith, sym (ap length (stream_none c.before.args.s)))
 
 add-least : tie.Need-overflow-add-least invariant-loop decreases-loop
 add-least c = search rules
@@ -69,7 +69,7 @@ returns c = let start = c.before.before.before.before.before.before.before in
     let loop = c.before.before.before.before.before.loop in
     let e = ends c.before.before.before in
     let place = c.before.first-outside in
-    let found = first-in-part start.args.text.now loop.at c.before.before.before.least.result e.0 e.1 (λ (w : ℕ). leb start.args.vocabulary w) loop.invariant.1 (rw (← place.ensures) c.if1.true) in
+    let found = first_in_part start.args.text.now loop.at c.before.before.before.least.result e.0 e.1 (λ (w : ℕ). leb start.args.vocabulary w) loop.invariant.1 (rw (← place.ensures) c.if1.true) in
     record { place = ap (λ (n : ℕ). loop.at + n) place.ensures ∙ found; bytes = λ h. absurd (omega (arith, c.if1.true, e.1)) }
 
 mul-stream-length : tie.Need-overflow-mul-stream-length invariant-loop decreases-loop
@@ -92,7 +92,7 @@ stream-length-requires c κs = let start = c.before.before.before.before.before.
 add-bytes : tie.Need-overflow-add-bytes invariant-loop decreases-loop
 add-bytes c = let start = c.before.before.before.before.before.before.before.before.before in
     let stop = c.before.before.before.before.before.least.result in
-    omega (arith, counted c, stream-most start.args.s (take stop start.args.text.now), length-take stop start.args.text.now, start.requires.1)
+    omega (arith, counted c, stream_most start.args.s (take stop start.args.text.now), length-take stop start.args.text.now, start.requires.1)
 
 loop-less : tie.Need-loop-smaller invariant-loop decreases-loop
 loop-less c = search rules
@@ -101,7 +101,7 @@ loop-again : tie.Need-loop-preserved invariant-loop decreases-loop
 loop-again c = let start = c.before.before.before.before.before.before.before.before.before in
     let loop = c.before.before.before.before.before.before.before.loop in
     let e = ends c.before.before.before.before.before in
-    let behind = first-behind-part start.args.text.now loop.at c.before.before.before.before.before.least.result e.0 e.1 (λ (w : ℕ). leb start.args.vocabulary w) loop.invariant.1 (rw (← c.before.before.before.first-outside.ensures) c.before.before.if1.false) in
+    let behind = first_behind_part start.args.text.now loop.at c.before.before.before.before.before.least.result e.0 e.1 (λ (w : ℕ). leb start.args.vocabulary w) loop.invariant.1 (rw (← c.before.before.before.first-outside.ensures) c.before.before.if1.false) in
     (e.1, behind, omega (arith, counted c))
 
 returns-2 : tie.Need-returns-2 invariant-loop decreases-loop
@@ -109,7 +109,7 @@ returns-2 c = let start = c.before.before.before in
     let loop = c.before.loop in
     let end : loop.at ≡ length start.args.text.now = omega arith in
     record {
-      place = first-at-end (λ (w : ℕ). leb start.args.vocabulary w) start.args.text.now loop.at end loop.invariant.1;
+      place = first_at_end (λ (w : ℕ). leb start.args.vocabulary w) start.args.text.now loop.at end loop.invariant.1;
       bytes = λ h. loop.invariant.2 ∙ ap (λ (u : List ℕ). length (stream start.args.s u)) (take_all loop.at start.args.text.now (omega arith));
     }
 

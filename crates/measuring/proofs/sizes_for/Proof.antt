@@ -11,7 +11,7 @@ mul-row-count : tie.Need-overflow-mul-row-count
 mul-row-count c = search rules
 
 row-count-requires : tie.Need-row-count-requires
-row-count-requires c κs = let start = c.before.before in (mul-pos start.requires.1.someByte start.requires.1.someBlock, start.requires.2)
+row-count-requires c κs = let start = c.before.before in (mul-pos start.requires.1.some_byte start.requires.1.some_block, start.requires.2)
 
 row-count-requires-2 : tie.Need-row-count-requires-2
 row-count-requires-2 c κs = search rules

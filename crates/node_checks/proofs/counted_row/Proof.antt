@@ -7,9 +7,9 @@ use borrow.Author.Count.{below_none}
 use borrow.Author.Rules.{rules}
 use lib.ListN.{length, get_or, take, drop, length-set}
 use Rattle.base.specs.Lists.{count_of}
-use Rattle.base.proofs.Counts.{count-part, count-take-most}
+use Rattle.base.proofs.Counts.{count_part, count_take_most}
 use Rattle.base.proofs.Fronts.{set_below}
-use Rattle.base.proofs.Ranges.{map-range-is}
+use Rattle.base.proofs.Ranges.{map_range_is}
 use Rattle.directory.specs.Counters.{row}
 use Rattle.node_checks.proofs.counted_row.Statement.{statement}
 use Rattle.node_checks.proofs.counted_row.Tie as tie
@@ -25,7 +25,7 @@ decreases-loop bytes superblocks blocks start end counts₀ block per value₀ c
 part : (bytes : List ℕ) (start end : ℕ) → start ≤ end → (e : ℕ) → count_of e (take end bytes) ≡ count_of e (take start bytes) + count_of e (take (end - start) (drop start bytes))
 part bytes start end h e =
     let z : end ≡ start + (end - start) = omega arith in
-    ap (λ (n : ℕ). count_of e (take n bytes)) z ∙ count-part e start (end - start) bytes
+    ap (λ (n : ℕ). count_of e (take n bytes)) z ∙ count_part e start (end - start) bytes
 
 -- the numbers of a turn
 counts : (c : tie.After-count-below2 invariant-loop decreases-loop) → let a = c.before.before.before.before.before.before.before.args in
@@ -58,7 +58,7 @@ sub-counts c =
 cast-counts : tie.Need-overflow-cast-counts invariant-loop decreases-loop
 cast-counts c =
     let st = c.before.before.before.before.before.before.before in
-    omega (arith, c.count-below2.ensures, count-take-most c.before.before.before.loop.value st.args.end st.args.bytes.now, st.requires.0.bytes_most, st.requires.3)
+    omega (arith, c.count-below2.ensures, count_take_most c.before.before.before.loop.value st.args.end st.args.bytes.now, st.requires.0.bytes_most, st.requires.3)
 
 mul-counts : tie.Need-overflow-mul-counts invariant-loop decreases-loop
 mul-counts c = search rules
@@ -87,7 +87,7 @@ returns c =
     let a = c.before.before.before.before.before.args in
     let l = c.before.loop in
     let e : l.value ≡ 256 = omega arith in
-    map-range-is 0 l.counts (λ (j : ℕ). count_of j (take (a.end - a.start) (drop a.start a.bytes.now))) 256 l.invariant.1 (λ j h. l.invariant.2 j (omega arith))
+    map_range_is 0 l.counts (λ (j : ℕ). count_of j (take (a.end - a.start) (drop a.start a.bytes.now))) 256 l.invariant.1 (λ j h. l.invariant.2 j (omega arith))
 
 pub counted-row-spec : {M : Type 1} → statement M
 counted-row-spec =

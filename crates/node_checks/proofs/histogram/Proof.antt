@@ -6,9 +6,9 @@ use native.Mathlib.Omega.{arith}
 use borrow.Author.Rules.{rules}
 use lib.ListN.{set, length, take, get_or}
 use lib.Seq.{take_all}
-use Rattle.base.proofs.Counts.{count-take-most}
+use Rattle.base.proofs.Counts.{count_take_most}
 use Rattle.directory.specs.Counters.{row}
-use Rattle.directory.proofs.Rows.{row_at, row-none}
+use Rattle.directory.proofs.Rows.{row_at, row_none}
 use Rattle.node_checks.proofs.Tested.{row_more}
 use Rattle.node_checks.proofs.histogram.Statement.{statement}
 use Rattle.node_checks.proofs.histogram.Tie as tie
@@ -24,7 +24,7 @@ byte : (c : tie.After-shared-slice-known invariant-loop decreases-loop) → get_
 byte c = omega (arith, c.shared-slice-known.given c.before.before.loop.i)
 
 loop-holds : tie.Need-loop-init invariant-loop decreases-loop
-loop-holds c = (omega arith, sym row-none)
+loop-holds c = (omega arith, sym row_none)
 
 shared-slice-read-x : tie.Need-shared-slice-read-x invariant-loop decreases-loop
 shared-slice-read-x c = search rules
@@ -44,7 +44,7 @@ add-counts c = let part = c.before.before.before.args.part.now in
     omega (
       arith,
       ap (λ (xs : List ℕ). get_or xs (get_or part i 0) 0) c.before.before.loop.invariant.1 ∙ row_at (take i part) (get_or part i 0) (byte c),
-      count-take-most (get_or part i 0) i part,
+      count_take_most (get_or part i 0) i part,
       c.before.before.before.requires,
     )
 

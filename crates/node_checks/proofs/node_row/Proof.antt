@@ -1,6 +1,6 @@
 -- `node_checks::node_row` meets its contract: both ways count the bytes of the part. Assumes nothing.
 use native.Mathlib.Omega.{arith}
-use Rattle.directory.proofs.Rows.{block-most}
+use Rattle.directory.proofs.Rows.{block_most}
 use borrow.Author.Rules.{rules}
 use Rattle.node_checks.proofs.node_row.Statement.{statement}
 use Rattle.node_checks.proofs.node_row.Tie as tie
@@ -9,7 +9,7 @@ sub-if1 : tie.Need-overflow-sub-if1
 sub-if1 c = search rules
 
 mul-if1 : tie.Need-overflow-mul-if1
-mul-if1 c = omega (arith, block-most c.before.before.before.before.requires.0)
+mul-if1 c = omega (arith, block_most c.before.before.before.before.requires.0)
 
 sub-histogram : tie.Need-overflow-sub-histogram
 sub-histogram c = search rules

@@ -4,13 +4,13 @@ use native.Mathlib.Omega.{arith}
 use borrow.Author.Rules.{rules}
 use lib.ListN.{length}
 use Rattle.formatting.specs.Characters.{characters, labelled}
-use Rattle.formatting.proofs.Wrote.{first-of-four, second-of-four, third-of-four, fourth-of-four, wrote-four}
-use Rattle.node_lines.specs.Lines.{lineEnd, countsLine}
+use Rattle.formatting.proofs.Wrote.{first_of_four, second_of_four, third_of_four, fourth_of_four, wrote_four}
+use Rattle.node_lines.specs.Lines.{line_end, counts_line}
 use Rattle.node_lines.proofs.write_counts.Statement.{statement}
 use Rattle.node_lines.proofs.write_counts.Tie as tie
 
 -- the line has room from position 0 on
-room : (c : tie.Start) → 0 + length (countsLine c.args.words c.args.nodes c.args.bytes) ≤ length c.args.output.now
+room : (c : tie.Start) → 0 + length (counts_line c.args.words c.args.nodes c.args.bytes) ≤ length c.args.output.now
 room c = omega (arith, c.requires)
 
 slice-aggregate-write-labelled : tie.Need-slice-aggregate-write-labelled
@@ -26,37 +26,37 @@ slice-aggregate-write-words : tie.Need-slice-aggregate-write-words
 slice-aggregate-write-words c = search rules
 
 write-labelled-requires : tie.Need-write-labelled-requires
-unfolding countsLine
+unfolding counts_line
 write-labelled-requires c κs =
     let start = c.before.before.before in
-    first-of-four (labelled (characters "words ") start.args.words) (labelled (characters " nodes ") start.args.nodes) (labelled (characters " bytes ") start.args.bytes) lineEnd 0 start.args.output.now (room start)
+    first_of_four (labelled (characters "words ") start.args.words) (labelled (characters " nodes ") start.args.nodes) (labelled (characters " bytes ") start.args.bytes) line_end 0 start.args.output.now (room start)
 
 write-labelled-requires-2 : tie.Need-write-labelled-requires-2
-unfolding countsLine
+unfolding counts_line
 write-labelled-requires-2 c κs =
     let start = c.before.before.before.before.before.before.before.before in
-    second-of-four (labelled (characters "words ") start.args.words) (labelled (characters " nodes ") start.args.nodes) (labelled (characters " bytes ") start.args.bytes) lineEnd 0 start.args.output.now (room start) c.before.before.before.before.write-labelled.ensures
+    second_of_four (labelled (characters "words ") start.args.words) (labelled (characters " nodes ") start.args.nodes) (labelled (characters " bytes ") start.args.bytes) line_end 0 start.args.output.now (room start) c.before.before.before.before.write-labelled.ensures
 
 write-labelled-requires-3 : tie.Need-write-labelled-requires-3
-unfolding countsLine
+unfolding counts_line
 write-labelled-requires-3 c κs =
     let start = c.before.before.before.before.before.before.before.before.before.before.before.before.before in
-    third-of-four (labelled (characters "words ") start.args.words) (labelled (characters " nodes ") start.args.nodes) (labelled (characters " bytes ") start.args.bytes) lineEnd 0 start.args.output.now (room start) c.before.before.before.before.before.before.before.before.before.write-labelled.ensures c.before.before.before.before.write-labelled2.ensures
+    third_of_four (labelled (characters "words ") start.args.words) (labelled (characters " nodes ") start.args.nodes) (labelled (characters " bytes ") start.args.bytes) line_end 0 start.args.output.now (room start) c.before.before.before.before.before.before.before.before.before.write-labelled.ensures c.before.before.before.before.write-labelled2.ensures
 
 write-words-requires : tie.Need-write-words-requires
-unfolding countsLine
+unfolding counts_line
 write-words-requires c κs =
     let start = c.before.before.before.before.before.before.before.before.before.before.before.before.before.before.before.before.before.before in
-    fourth-of-four (labelled (characters "words ") start.args.words) (labelled (characters " nodes ") start.args.nodes) (labelled (characters " bytes ") start.args.bytes) lineEnd 0 start.args.output.now (room start) c.before.before.before.before.before.before.before.before.before.before.before.before.before.before.write-labelled.ensures c.before.before.before.before.before.before.before.before.before.write-labelled2.ensures c.before.before.before.before.write-labelled3.ensures
+    fourth_of_four (labelled (characters "words ") start.args.words) (labelled (characters " nodes ") start.args.nodes) (labelled (characters " bytes ") start.args.bytes) line_end 0 start.args.output.now (room start) c.before.before.before.before.before.before.before.before.before.before.before.before.before.before.write-labelled.ensures c.before.before.before.before.before.before.before.before.before.write-labelled2.ensures c.before.before.before.before.write-labelled3.ensures
 
 same_length : tie.Need-same-length
 same_length c = search rules
 
 returns : tie.Need-returns
-unfolding countsLine
+unfolding counts_line
 returns c =
     let start = c.before.before.before.before.before.before.before.before.before.before.before.before.before.before.before.before.before.before.before.before.before in
-    wrote-four (labelled (characters "words ") start.args.words) (labelled (characters " nodes ") start.args.nodes) (labelled (characters " bytes ") start.args.bytes) lineEnd 0 start.args.output.now (room start) c.before.before.before.before.before.before.before.before.before.before.before.before.before.before.before.before.before.write-labelled.ensures c.before.before.before.before.before.before.before.before.before.before.before.before.write-labelled2.ensures c.before.before.before.before.before.before.before.write-labelled3.ensures c.before.before.write-words.ensures
+    wrote_four (labelled (characters "words ") start.args.words) (labelled (characters " nodes ") start.args.nodes) (labelled (characters " bytes ") start.args.bytes) line_end 0 start.args.output.now (room start) c.before.before.before.before.before.before.before.before.before.before.before.before.before.before.before.before.before.write-labelled.ensures c.before.before.before.before.before.before.before.before.before.before.before.before.write-labelled2.ensures c.before.before.before.before.before.before.before.write-labelled3.ensures c.before.before.write-words.ensures
 
 pub write-counts-spec : {M : Type 1} → statement M
 write-counts-spec =

@@ -1,10 +1,10 @@
 -- `node_lines::write_node` meets its contract. Assumes nothing.
 use native.Mathlib.Omega.{arith}
 use borrow.Author.Rules.{rules}
-use Rattle.formatting.specs.Characters.{characters, labelled, bytesText}
-use Rattle.formatting.proofs.Wrote.{first-of-four, second-of-four, third-of-four, fourth-of-four, wrote-four}
-use Rattle.formatting.proofs.Texts.{length-bytes-text}
-use Rattle.node_lines.specs.Lines.{lineEnd, nodeLine}
+use Rattle.formatting.specs.Characters.{characters, labelled, bytes_text}
+use Rattle.formatting.proofs.Wrote.{first_of_four, second_of_four, third_of_four, fourth_of_four, wrote_four}
+use Rattle.formatting.proofs.Texts.{length_bytes_text}
+use Rattle.node_lines.specs.Lines.{line_end, node_line}
 use Rattle.node_lines.proofs.write_node.Statement.{statement}
 use Rattle.node_lines.proofs.write_node.Tie as tie
 
@@ -18,37 +18,37 @@ slice-aggregate-write-words-2 : tie.Need-slice-aggregate-write-words-2
 slice-aggregate-write-words-2 c = search rules
 
 write-labelled-requires : tie.Need-write-labelled-requires
-unfolding nodeLine
+unfolding node_line
 write-labelled-requires c κs =
     let start = c.before.before.before.before in
-    first-of-four (labelled (characters "node ") start.args.node) (characters ":") (bytesText start.args.bytes.now) lineEnd start.args.at start.args.output.now start.requires
+    first_of_four (labelled (characters "node ") start.args.node) (characters ":") (bytes_text start.args.bytes.now) line_end start.args.at start.args.output.now start.requires
 
 write-words-requires : tie.Need-write-words-requires
-unfolding nodeLine
+unfolding node_line
 write-words-requires c κs =
     let start = c.before.before.before.before.before.before.before.before.before in
-    second-of-four (labelled (characters "node ") start.args.node) (characters ":") (bytesText start.args.bytes.now) lineEnd start.args.at start.args.output.now start.requires c.before.before.before.before.write-labelled.ensures
+    second_of_four (labelled (characters "node ") start.args.node) (characters ":") (bytes_text start.args.bytes.now) line_end start.args.at start.args.output.now start.requires c.before.before.before.before.write-labelled.ensures
 
 write-bytes-requires : tie.Need-write-bytes-requires
-unfolding nodeLine
+unfolding node_line
 write-bytes-requires c κs =
     let start = c.before.before.before.before.before.before.before.before.before.before.before.before.before in
-    omega (arith, third-of-four (labelled (characters "node ") start.args.node) (characters ":") (bytesText start.args.bytes.now) lineEnd start.args.at start.args.output.now start.requires c.before.before.before.before.before.before.before.before.write-labelled.ensures c.before.before.before.write-words.ensures, length-bytes-text start.args.bytes.now)
+    omega (arith, third_of_four (labelled (characters "node ") start.args.node) (characters ":") (bytes_text start.args.bytes.now) line_end start.args.at start.args.output.now start.requires c.before.before.before.before.before.before.before.before.write-labelled.ensures c.before.before.before.write-words.ensures, length_bytes_text start.args.bytes.now)
 
 write-words-requires-2 : tie.Need-write-words-requires-2
-unfolding nodeLine
+unfolding node_line
 write-words-requires-2 c κs =
     let start = c.before.before.before.before.before.before.before.before.before.before.before.before.before.before.before.before.before.before in
-    fourth-of-four (labelled (characters "node ") start.args.node) (characters ":") (bytesText start.args.bytes.now) lineEnd start.args.at start.args.output.now start.requires c.before.before.before.before.before.before.before.before.before.before.before.before.before.write-labelled.ensures c.before.before.before.before.before.before.before.before.write-words.ensures c.before.before.before.before.write_bytes.ensures
+    fourth_of_four (labelled (characters "node ") start.args.node) (characters ":") (bytes_text start.args.bytes.now) line_end start.args.at start.args.output.now start.requires c.before.before.before.before.before.before.before.before.before.before.before.before.before.write-labelled.ensures c.before.before.before.before.before.before.before.before.write-words.ensures c.before.before.before.before.write_bytes.ensures
 
 same_length : tie.Need-same-length
 same_length c = search rules
 
 returns : tie.Need-returns
-unfolding nodeLine
+unfolding node_line
 returns c =
     let start = c.before.before.before.before.before.before.before.before.before.before.before.before.before.before.before.before.before.before.before.before.before in
-    wrote-four (labelled (characters "node ") start.args.node) (characters ":") (bytesText start.args.bytes.now) lineEnd start.args.at start.args.output.now start.requires c.before.before.before.before.before.before.before.before.before.before.before.before.before.before.before.before.write-labelled.ensures c.before.before.before.before.before.before.before.before.before.before.before.write-words.ensures c.before.before.before.before.before.before.before.write_bytes.ensures c.before.before.write-words2.ensures
+    wrote_four (labelled (characters "node ") start.args.node) (characters ":") (bytes_text start.args.bytes.now) line_end start.args.at start.args.output.now start.requires c.before.before.before.before.before.before.before.before.before.before.before.before.before.before.before.before.write-labelled.ensures c.before.before.before.before.before.before.before.before.before.before.before.write-words.ensures c.before.before.before.before.before.before.before.write_bytes.ensures c.before.before.write-words2.ensures
 
 pub write-node-spec : {M : Type 1} → statement M
 write-node-spec =

@@ -9,18 +9,18 @@ use borrow.Author.Rules.{rules}
 use lib.ListN.{length, take, drop, get_or}
 use lib.Seq.{take_all}
 use Rattle.base.specs.Lists.{total, segments}
-use Rattle.base.proofs.Sums.{total-take-suc, total-take-whole}
-use Rattle.base.proofs.Segments.{segment-at, count-segments}
+use Rattle.base.proofs.Sums.{total_take_suc, total_take_whole}
+use Rattle.base.proofs.Segments.{segment_at, count_segments}
 use Rattle.formatting.specs.Writing.{Wrote}
 use Rattle.formatting.proofs.Wrote.{wrote_none}
-use Rattle.node_lines.specs.Lines.{nodeLines}
-use Rattle.node_lines.proofs.NodeLines.{lines-as-long, lines-next-room, lines-next-written}
+use Rattle.node_lines.specs.Lines.{node_lines}
+use Rattle.node_lines.proofs.NodeLines.{lines_as_long, lines_next_room, lines_next_written}
 use Rattle.node_lines.proofs.write_nodes.Statement.{statement}
 use Rattle.node_lines.proofs.write_nodes.Tie as tie
 
 abbrev invariant-loop : tie.invariant-loop
 invariant-loop lengths bytes output₀ at next₀ start₀ node₀ output next start node =
-    (node ≤ length lengths) × (start ≡ total (take node lengths)) × Wrote (nodeLines 0 (take node (segments lengths bytes))) at output₀ next output
+    (node ≤ length lengths) × (start ≡ total (take node lengths)) × Wrote (node_lines 0 (take node (segments lengths bytes))) at output₀ next output
 
 abbrev decreases-loop : tie.decreases-loop
 decreases-loop lengths bytes output₀ at next₀ start₀ node₀ output next start node = length lengths - node
@@ -32,15 +32,15 @@ inside : (c : tie.In-loop invariant-loop decreases-loop)
 inside c =
     let start = c.before.before.before.before.before in
     let lengths = start.args.lengths.now in
-    let e : total (take (c.before.loop.node + 1) lengths) ≡ total (take c.before.loop.node lengths) + get_or lengths c.before.loop.node 0 = rw add-one (total-take-suc lengths c.before.loop.node c.loop-test.true) in
-    (omega (arith, c.before.loop.invariant.1), omega (arith, c.before.loop.invariant.1, total-take-whole lengths (c.before.loop.node + 1), start.requires.0))
+    let e : total (take (c.before.loop.node + 1) lengths) ≡ total (take c.before.loop.node lengths) + get_or lengths c.before.loop.node 0 = rw add-one (total_take_suc lengths c.before.loop.node c.loop-test.true) in
+    (omega (arith, c.before.loop.invariant.1), omega (arith, c.before.loop.invariant.1, total_take_whole lengths (c.before.loop.node + 1), start.requires.0))
 
 -- the part of the bytes that is lent is the node
 lent : (lengths bytes : List ℕ) (node start : ℕ) → start ≡ total (take node lengths)
     → take (start + get_or lengths node 0 - start) (drop start bytes) ≡ get_or (segments lengths bytes) node []
 lent lengths bytes node start e =
     let n : start + get_or lengths node 0 - start ≡ get_or lengths node 0 = omega arith in
-    rw (n, e) (sym (segment-at lengths bytes node))
+    rw (n, e) (sym (segment_at lengths bytes node))
 
 loop-holds : tie.Need-loop-init invariant-loop decreases-loop
 loop-holds c = (omega arith, omega arith, wrote_none c.before.before.before.args.at c.before.before.before.args.output.now)
@@ -72,7 +72,7 @@ write-node-requires c κs =
     let loop = c.before.before.before.before.loop in
     let ns = segments start.args.lengths.now start.args.bytes.now in
     rw (lent start.args.lengths.now start.args.bytes.now loop.node loop.start loop.invariant.1)
-    (lines-next-room ns start.args.at loop.node start.args.output.now loop.output loop.next start.requires.1 loop.invariant.2 (rw (count-segments start.args.lengths.now start.args.bytes.now) c.before.before.before.loop-test.true))
+    (lines_next_room ns start.args.at loop.node start.args.output.now loop.output loop.next start.requires.1 loop.invariant.2 (rw (count_segments start.args.lengths.now start.args.bytes.now) c.before.before.before.loop-test.true))
 
 add-node : tie.Need-overflow-add-node invariant-loop decreases-loop
 add-node c = search rules
@@ -89,20 +89,20 @@ loop-again c =
     let line = rw (lent start.args.lengths.now start.args.bytes.now loop.node loop.start loop.invariant.1) at c.before.before.write-node.ensures in (
       omega arith,
       (inside c.before.before.before.before.before.before).0,
-      lines-next-written ns start.args.at loop.node start.args.output.now loop.output loop.next start.requires.1 loop.invariant.2 (rw (count-segments start.args.lengths.now start.args.bytes.now) test) line,
+      lines_next_written ns start.args.at loop.node start.args.output.now loop.output loop.next start.requires.1 loop.invariant.2 (rw (count_segments start.args.lengths.now start.args.bytes.now) test) line,
     )
 
 same_length : tie.Need-same-length invariant-loop decreases-loop
 same_length c =
     let start = c.before.before.before.before.before in
     let loop = c.before.loop in
-    lines-as-long (segments start.args.lengths.now start.args.bytes.now) start.args.at loop.node start.args.output.now loop.output loop.next start.requires.1 loop.invariant.2
+    lines_as_long (segments start.args.lengths.now start.args.bytes.now) start.args.at loop.node start.args.output.now loop.output loop.next start.requires.1 loop.invariant.2
 
 returns : tie.Need-returns invariant-loop decreases-loop
 returns c =
     let start = c.before.before.before.before.before in
     let ns = segments start.args.lengths.now start.args.bytes.now in
-    rw (take_all c.before.loop.node ns (omega (arith, count-segments start.args.lengths.now start.args.bytes.now))) at c.before.loop.invariant.2
+    rw (take_all c.before.loop.node ns (omega (arith, count_segments start.args.lengths.now start.args.bytes.now))) at c.before.loop.invariant.2
 
 pub write-nodes-spec : {M : Type 1} → statement M
 write-nodes-spec =

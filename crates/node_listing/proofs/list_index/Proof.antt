@@ -6,22 +6,22 @@ use mathlib.Core.List.{◌++◌}
 use native.Mathlib.Omega.{arith}
 use borrow.Author.Rules.{rules}
 use lib.ListN.{length, replicate}
-use Rattle.formatting.proofs.Wrote.{room-first, room-second, wrote-both}
+use Rattle.formatting.proofs.Wrote.{room_first, room_second, wrote_both}
 use Rattle.index.specs.Arrays.{arrays}
-use Rattle.node_listing.specs.Listing.{vocabularyOf, indexListing, maxStreamVocabulary}
-use Rattle.node_listing.proofs.Lengths.{index-length}
-use Rattle.node_listing.proofs.Built.{countsOf, lines_of, Listed, listed, count-taken, sum-taken, sum_inside, nodes-inside, counts-are, lines_are}
+use Rattle.node_listing.specs.Listing.{vocabulary_of, index_listing, max_stream_vocabulary}
+use Rattle.node_listing.proofs.Lengths.{index_length}
+use Rattle.node_listing.proofs.Built.{counts_of, lines_of, Listed, listed, count_taken, sum_taken, sum_inside, nodes_inside, counts_are, lines_are}
 use Rattle.node_listing.proofs.list_index.Statement.{statement}
 use Rattle.node_listing.proofs.list_index.Tie as tie
 
 -- V is within the limit of the program
-small : (c : tie.Start) → vocabularyOf c.args.text.now ≤ maxStreamVocabulary
+small : (c : tie.Start) → vocabulary_of c.args.text.now ≤ max_stream_vocabulary
 small c = omega (arith, c.requires.1, c.requires.2)
 
 -- the listing has room
-room : (c : tie.Start) → 0 + length (countsOf c.args.text.now ++ lines_of c.args.text.now) ≤ length c.args.output.now
-unfolding indexListing
-room c = omega (arith, index-length c.args.text.now c.requires.0 (small c), c.requires.3)
+room : (c : tie.Start) → 0 + length (counts_of c.args.text.now ++ lines_of c.args.text.now) ≤ length c.args.output.now
+unfolding index_listing
+room c = omega (arith, index_length c.args.text.now c.requires.0 (small c), c.requires.3)
 
 -- the index stands in front of the slices
 built : (c : tie.After-node-count) → Listed c.before.before.before.before.before.before.before.before.before.before.before.before.args.text.now c.node-count.result c.before.before.before.before.before.build.result.value c.before.before.before.before.before.build.new.1.1.0 c.before.before.before.before.before.build.new.1.1.1.0
@@ -52,42 +52,42 @@ write-counts-requires : tie.Need-write-counts-requires
 write-counts-requires c κs =
     let start = c.before.before.before.before.before.before.before.before.before.before.before.before.before in
     let text = start.args.text.now in
-    rw (counts-are text start.requires.0 (small start) (built c.before)) (omega (arith, room-first (countsOf text) (lines_of text) 0 (length start.args.output.now) (room start)))
+    rw (counts_are text start.requires.0 (small start) (built c.before)) (omega (arith, room_first (counts_of text) (lines_of text) 0 (length start.args.output.now) (room start)))
 
 array-share-prefix-lengths : tie.Need-array-share-prefix-lengths
 array-share-prefix-lengths c = search rules
 
 slice-aggregate-write-nodes : tie.Need-slice-aggregate-write-nodes
-slice-aggregate-write-nodes c = count-taken c.before.before.before.before.before.before.before.before.before.before.before.before.before.before.before.before.before.args.text.now c.before.before.before.before.before.before.before.before.before.before.before.before.before.before.before.before.before.requires.0 (small c.before.before.before.before.before.before.before.before.before.before.before.before.before.before.before.before.before) (built c.before.before.before.before.before)
+slice-aggregate-write-nodes c = count_taken c.before.before.before.before.before.before.before.before.before.before.before.before.before.before.before.before.before.args.text.now c.before.before.before.before.before.before.before.before.before.before.before.before.before.before.before.before.before.requires.0 (small c.before.before.before.before.before.before.before.before.before.before.before.before.before.before.before.before.before) (built c.before.before.before.before.before)
 
 array-share-prefix-bytes : tie.Need-array-share-prefix-bytes
 array-share-prefix-bytes c = sum_inside c.before.before.before.before.before.before.before.before.before.before.before.before.before.before.before.before.before.args.text.now c.before.before.before.before.before.before.before.before.before.before.before.before.before.before.before.before.before.requires.0 (small c.before.before.before.before.before.before.before.before.before.before.before.before.before.before.before.before.before) (built c.before.before.before.before.before)
 
 slice-aggregate-write-nodes-2 : tie.Need-slice-aggregate-write-nodes-2
-slice-aggregate-write-nodes-2 c = sum-taken c.before.before.before.before.before.before.before.before.before.before.before.before.before.before.before.before.before.before.args.text.now c.before.before.before.before.before.before.before.before.before.before.before.before.before.before.before.before.before.before.requires.0 (small c.before.before.before.before.before.before.before.before.before.before.before.before.before.before.before.before.before.before) (built c.before.before.before.before.before.before)
+slice-aggregate-write-nodes-2 c = sum_taken c.before.before.before.before.before.before.before.before.before.before.before.before.before.before.before.before.before.before.args.text.now c.before.before.before.before.before.before.before.before.before.before.before.before.before.before.before.before.before.before.requires.0 (small c.before.before.before.before.before.before.before.before.before.before.before.before.before.before.before.before.before.before) (built c.before.before.before.before.before.before)
 
 write-nodes-requires : tie.Need-write-nodes-requires
 write-nodes-requires c κs =
     let start = c.before.before.before.before.before.before.before.before.before.before.before.before.before.before.before.before.before.before.before in
     let text = start.args.text.now in
     let is = built c.before.before.before.before.before.before.before in
-    let line = rw (counts-are text start.requires.0 (small start) is) at c.before.before.before.before.before.write-counts.ensures in (
-      nodes-inside text start.requires.0 (small start) is,
-      rw (lines_are text start.requires.0 (small start) is) (room-second line (lines_of text) (room start)),
+    let line = rw (counts_are text start.requires.0 (small start) is) at c.before.before.before.before.before.write-counts.ensures in (
+      nodes_inside text start.requires.0 (small start) is,
+      rw (lines_are text start.requires.0 (small start) is) (room_second line (lines_of text) (room start)),
     )
 
 same_length : tie.Need-same-length
 same_length c = search rules
 
 returns : tie.Need-returns
-unfolding indexListing
+unfolding index_listing
 returns c =
     let start = c.before.before.before.before.before.before.before.before.before.before.before.before.before.before.before.before.before.before.before.before.before.before in
     let text = start.args.text.now in
     let is = built c.before.before.before.before.before.before.before.before.before.before in
-    let line = rw (counts-are text start.requires.0 (small start) is) at c.before.before.before.before.before.before.before.before.write-counts.ensures in
+    let line = rw (counts_are text start.requires.0 (small start) is) at c.before.before.before.before.before.before.before.before.write-counts.ensures in
     let rest = rw (lines_are text start.requires.0 (small start) is) at c.before.before.write-nodes.ensures in
-    wrote-both line (lines_of text) (room start) rest
+    wrote_both line (lines_of text) (room start) rest
 
 pub list-index-spec : {M : Type 1} → statement M
 list-index-spec =

@@ -7,7 +7,7 @@ use borrow.Author.Rules.{rules}
 use lib.ListN.{length, take}
 use lib.Seq.{take_all}
 use Rattle.node_listing.specs.Listing.{largest as largestOf}
-use Rattle.node_listing.proofs.Vocabulary.{largest-next}
+use Rattle.node_listing.proofs.Vocabulary.{largest_next}
 use Rattle.node_listing.proofs.vocabulary_of.Statement.{statement}
 use Rattle.node_listing.proofs.vocabulary_of.Tie as tie
 
@@ -39,7 +39,7 @@ loop-again : tie.Need-loop-preserved invariant-loop decreases-loop
 loop-again c =
     let text = c.before.before.before.before.args.text.now in
     let loop = c.before.before.before.loop in
-    let next = largest-next text loop.place c.before.before.loop-test.true in
+    let next = largest_next text loop.place c.before.before.loop-test.true in
     let rank = c.before.shared-slice-known.given loop.place in
     ⊎_elim
     (λ w. (omega arith, omega (arith, next, loop.invariant.1), omega (arith, rank)))

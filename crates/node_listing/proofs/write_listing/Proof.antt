@@ -5,18 +5,18 @@ use native.Mathlib.Omega.{arith}
 use borrow.Author.Rules.{rules}
 use lib.ListN.{length, take, length-take}
 use Rattle.base.specs.Answers.{accepted}
-use Rattle.base.proofs.Fronts.{take-front}
-use Rattle.formatting.proofs.Wrote.{wrote-front}
+use Rattle.base.proofs.Fronts.{take_front}
+use Rattle.formatting.proofs.Wrote.{wrote_front}
 use Rattle.node_listing.specs.Listing.{listing as listingOf}
-use Rattle.node_listing.proofs.Calls.{listing-short, listing-written}
+use Rattle.node_listing.proofs.Calls.{listing_short, listing_written}
 use Rattle.node_listing.proofs.write_listing.Statement.{statement}
 use Rattle.node_listing.proofs.write_listing.Tie as tie
 
 -- what is made stands in front, as many bytes as are returned
 made : (c : tie.After-list-stream) → (c.list-stream.result ≡ length (listingOf c.before.before.before.before.args.stream.now)) × (take c.list-stream.result c.list-stream.new.1.0 ≡ listingOf c.before.before.before.before.args.stream.now)
 made c =
-    let w = wrote-front c.list-stream.ensures in
-    (w.0, ap₂ take w.0 w.1 ∙ take-front (listingOf c.before.before.before.before.args.stream.now) _)
+    let w = wrote_front c.list-stream.ensures in
+    (w.0, ap₂ take w.0 w.1 ∙ take_front (listingOf c.before.before.before.before.args.stream.now) _)
 
 slice-aggregate-list-stream : tie.Need-slice-aggregate-list-stream
 slice-aggregate-list-stream c = search rules
@@ -30,7 +30,7 @@ refused-requires c κs = search rules
 returns : tie.Need-returns
 returns c =
     let start = c.before.before.before.before.before.before.before in
-    let e = listing-short start.args.stream.now start.args.output.now (omega (arith, (made c.before.before.before).0, c.before.if1.true)) in
+    let e = listing_short start.args.stream.now start.args.output.now (omega (arith, (made c.before.before.before).0, c.before.if1.true)) in
     (c.refused.ensures ∙ sym e.0, sym e.1)
 
 array-share-prefix-listing : tie.Need-array-share-prefix-listing
@@ -53,8 +53,8 @@ same_length c = search rules
 returns-2 : tie.Need-returns-2
 returns-2 c =
     let start = c.before.before.before.before.before.before.before.before.before.before.before.before in
-    let e = listing-written start.args.stream.now start.args.output.now (omega (arith, (made c.before.before.before.before.before.before.before.before).0, c.before.before.before.before.before.before.if1.false)) in
-    let w = wrote-front (rw (made c.before.before.before.before.before.before.before.before).1 at c.before.before.before.write-words.ensures) in
+    let e = listing_written start.args.stream.now start.args.output.now (omega (arith, (made c.before.before.before.before.before.before.before.before).0, c.before.before.before.before.before.before.if1.false)) in
+    let w = wrote_front (rw (made c.before.before.before.before.before.before.before.before).1 at c.before.before.before.write-words.ensures) in
     (c.accepted.ensures ∙ ap accepted (made c.before.before.before.before.before.before.before.before).0 ∙ sym e.0, w.1 ∙ sym e.1)
 
 pub write-listing-spec : {M : Type 1} → statement M

@@ -3,13 +3,13 @@ use Prim.Native.Nat.{◌≤◌}
 use mathlib.Core.Path.{◌≡◌}
 use borrow.Author.Rules.{rules}
 use lib.ListN.{length, take}
-use Rattle.node_listing.proofs.Calls.{listing-counts}
+use Rattle.node_listing.proofs.Calls.{listing_counts}
 use Rattle.nodes.proofs.main.Statement.{statement}
 use Rattle.nodes.proofs.main.Tie as tie
 
 -- what is answered counts bytes of the output
 counted : (c : tie.After-write-listing) → (c.write-listing.result.value ≤ length c.write-listing.new.1.0) × (c.write-listing.result.value ≡ length (take c.write-listing.result.value c.write-listing.new.1.0))
-counted c = listing-counts _ _ c.write-listing.result c.write-listing.new.1.0 c.write-listing.ensures.0 c.write-listing.ensures.1
+counted c = listing_counts _ _ c.write-listing.result c.write-listing.new.1.0 c.write-listing.ensures.0 c.write-listing.ensures.1
 
 slice-aggregate-read-full : tie.Need-slice-aggregate-read-full
 slice-aggregate-read-full c = search rules

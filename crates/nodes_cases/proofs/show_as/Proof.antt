@@ -2,14 +2,14 @@
 use Prim.Native.Nat.{◌≤◌}
 use mathlib.Core.Path.{◌≡◌}
 use lib.ListN.{length, take}
-use Rattle.node_listing.proofs.Calls.{listing-counts}
+use Rattle.node_listing.proofs.Calls.{listing_counts}
 use borrow.Author.Rules.{rules}
 use Rattle.nodes_cases.proofs.show_as.Statement.{statement}
 use Rattle.nodes_cases.proofs.show_as.Tie as tie
 
 -- what is answered counts bytes of the output
 counted : (c : tie.After-write-listing) → (c.write-listing.result.value ≤ length c.write-listing.new.1.0) × (c.write-listing.result.value ≡ length (take c.write-listing.result.value c.write-listing.new.1.0))
-counted c = listing-counts _ _ c.write-listing.result c.write-listing.new.1.0 c.write-listing.ensures.0 c.write-listing.ensures.1
+counted c = listing_counts _ _ c.write-listing.result c.write-listing.new.1.0 c.write-listing.ensures.0 c.write-listing.ensures.1
 
 slice-aggregate-write-listing : tie.Need-slice-aggregate-write-listing
 slice-aggregate-write-listing c = search rules

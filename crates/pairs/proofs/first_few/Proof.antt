@@ -9,8 +9,8 @@ use borrow.Author.Rules.{rules}
 use borrow.Author.Tests.{eqb-true, eq-eqb}
 use lib.Dec.{eqb}
 use lib.ListN.{length, get_or}
-use Rattle.base.proofs.Tests.{and_left, and_right, and-true}
-use Rattle.pairs.proofs.Pairs.{Tried, tried-none, tried-hit, tried-miss, tried-all}
+use Rattle.base.proofs.Tests.{and_left, and_right, and_true}
+use Rattle.pairs.proofs.Pairs.{Tried, tried_none, tried_hit, tried_miss, tried_all}
 use Rattle.pairs.proofs.first_few.Statement.{statement}
 use Rattle.pairs.proofs.first_few.Tie as tie
 
@@ -26,7 +26,7 @@ cast-count c = search rules
 loop-holds : tie.Need-loop-init invariant-loop decreases-loop
 loop-holds c =
     let a = c.args in
-    (refl, omega arith, tried-none a.x a.y a.here.now a.there.now)
+    (refl, omega arith, tried_none a.x a.y a.here.now a.there.now)
 
 shared-slice-read-one : tie.Need-shared-slice-read-one invariant-loop decreases-loop
 shared-slice-read-one c = search rules
@@ -55,11 +55,11 @@ loop-again c =
       omega arith,
       rw (add-one l.i)
           (⊎_elim
-          (λ w. tried-hit a.x a.y a.here.now a.there.now l.invariant.2 (omega arith) m c.if2.most
+          (λ w. tried_hit a.x a.y a.here.now a.there.now l.invariant.2 (omega arith) m c.if2.most
           (eqb-true _ _ (and_left one other w.0.taken)) (eqb-true _ _ (and_right one other w.0.taken))
           (⊎_elim (λ v. omega arith) (λ v. omega arith) c.if2.branch))
-          (λ w. tried-miss a.x a.y a.here.now a.there.now l.invariant.2 (omega arith) m c.if2.most
-          (λ p q. false≢true (sym w.0.left ∙ and-true one other (eq-eqb _ _ p) (eq-eqb _ _ q)))
+          (λ w. tried_miss a.x a.y a.here.now a.there.now l.invariant.2 (omega arith) m c.if2.most
+          (λ p q. false≢true (sym w.0.left ∙ and_true one other (eq-eqb _ _ p) (eq-eqb _ _ q)))
           (⊎_elim (λ v. omega arith) (λ v. omega arith) c.if2.branch))
           c.before.if1.branch),
     )
@@ -67,12 +67,12 @@ loop-again c =
 sub-result : tie.Need-overflow-sub-result invariant-loop decreases-loop
 sub-result c =
     let a = c.before.before.args in
-    omega (arith, tried-all a.x a.y a.here.now a.there.now c.before.loop.invariant.2 (omega arith))
+    omega (arith, tried_all a.x a.y a.here.now a.there.now c.before.loop.invariant.2 (omega arith))
 
 returns : tie.Need-returns invariant-loop decreases-loop
 returns c =
     let a = c.before.before.args in
-    omega (arith, tried-all a.x a.y a.here.now a.there.now c.before.loop.invariant.2 (omega arith))
+    omega (arith, tried_all a.x a.y a.here.now a.there.now c.before.loop.invariant.2 (omega arith))
 
 pub first-few-spec : {M : Type 1} → statement M
 first-few-spec =

@@ -4,32 +4,32 @@ use mathlib.Core.Path.{◌≡◌}
 use native.Mathlib.Omega.{arith}
 use borrow.Author.Rules.{rules}
 use lib.ListN.{length, drop, length-take}
-use Rattle.pairs.specs.Pairs.{firstPair}
-use Rattle.pairs.proofs.Pairs.{pair-most, pair-part, part_same}
+use Rattle.pairs.specs.Pairs.{first_pair}
+use Rattle.pairs.proofs.Pairs.{pair_most, pair_part, part_same}
 use Rattle.pairs.proofs.first_pair.Statement.{statement}
 use Rattle.pairs.proofs.first_pair.Tie as tie
 
 abbrev invariant-loop : tie.invariant-loop
-invariant-loop here there x y i₀ i = (i ≤ length here) × (i ≤ firstPair x y here there)
+invariant-loop here there x y i₀ i = (i ≤ length here) × (i ≤ first_pair x y here there)
 
 abbrev decreases-loop : tie.decreases-loop
 decreases-loop here there x y i₀ i = length here - i
 
 -- the first pair, or the stop where that is not before it
-found : (c : tie.After-first-few invariant-loop decreases-loop) → let a = c.before.before.before.before.before.before.before.args in let i = c.before.before.before.before.loop.i in i + c.first-few.result ≡ min (i + 128) (firstPair a.x a.y a.here.now a.there.now)
+found : (c : tie.After-first-few invariant-loop decreases-loop) → let a = c.before.before.before.before.before.before.before.args in let i = c.before.before.before.before.loop.i in i + c.first-few.result ≡ min (i + 128) (first_pair a.x a.y a.here.now a.there.now)
 found c =
     let a = c.before.before.before.before.before.before.before.args in
     let l = c.before.before.before.before.loop in
-    omega (arith, c.first-few.ensures, pair-part a.x a.y l.i (l.i + 128 - l.i) a.here.now a.there.now l.invariant.1)
+    omega (arith, c.first-few.ensures, pair_part a.x a.y l.i (l.i + 128 - l.i) a.here.now a.there.now l.invariant.1)
 
 -- the first pair, in what is left after the pieces
-found-last : (c : tie.After-first-few2 invariant-loop decreases-loop) → let a = c.before.before.before.before.before.before.before.args in c.before.before.before.before.loop.i + c.first-few2.result ≡ firstPair a.x a.y a.here.now a.there.now
+found-last : (c : tie.After-first-few2 invariant-loop decreases-loop) → let a = c.before.before.before.before.before.before.before.args in c.before.before.before.before.loop.i + c.first-few2.result ≡ first_pair a.x a.y a.here.now a.there.now
 found-last c =
     let s = c.before.before.before.before.before.before.before in
     let a = s.args in
     let l = c.before.before.before.before.loop in
     let e = rw (← s.requires) at c.first-few2.ensures in
-    omega (arith, e, pair-part a.x a.y l.i (length a.here.now - l.i) a.here.now a.there.now l.invariant.1, pair-most a.x a.y a.here.now a.there.now)
+    omega (arith, e, pair_part a.x a.y l.i (length a.here.now - l.i) a.here.now a.there.now l.invariant.1, pair_most a.x a.y a.here.now a.there.now)
 
 loop-holds : tie.Need-loop-init invariant-loop decreases-loop
 loop-holds c = search rules
@@ -112,7 +112,7 @@ cast-result c = search rules
 add-result : tie.Need-overflow-add-result invariant-loop decreases-loop
 add-result c =
     let a = c.before.before.before.before.before.before.before.args in
-    omega (arith, found-last c, pair-most a.x a.y a.here.now a.there.now)
+    omega (arith, found-last c, pair_most a.x a.y a.here.now a.there.now)
 
 returns-2 : tie.Need-returns-2 invariant-loop decreases-loop
 returns-2 c = found-last c

@@ -3,8 +3,8 @@ use Prim.Native.Nat.{ℕ}
 use mathlib.Core.Path.{sym, ap₂, ◌∙◌}
 use mathlib.Core.List.{List}
 use borrow.Author.Rules.{rules}
-use Rattle.pairs.specs.Pairs.{firstPair}
-use Rattle.pairs.proofs.Pairs.{pair-itself}
+use Rattle.pairs.specs.Pairs.{first_pair}
+use Rattle.pairs.proofs.Pairs.{pair_itself}
 use Rattle.pairs.proofs.next_pair.Statement.{statement}
 use Rattle.pairs.proofs.next_pair.Tie as tie
 
@@ -16,7 +16,7 @@ returns c =
     let s = c.before.before.before.before in
     let a = s.args in
     let e = s.requires.1 c.before.if1.true in
-    c.next_of.ensures ∙ sym (pair-itself a.x a.here.now) ∙ ap₂ (λ (y : ℕ) (there : List ℕ). firstPair a.x y a.here.now there) e.1 e.0
+    c.next_of.ensures ∙ sym (pair_itself a.x a.here.now) ∙ ap₂ (λ (y : ℕ) (there : List ℕ). first_pair a.x y a.here.now there) e.1 e.0
 
 first-pair-requires : tie.Need-first-pair-requires
 first-pair-requires c κs = search rules

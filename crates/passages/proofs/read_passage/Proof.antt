@@ -5,26 +5,26 @@ use native.Mathlib.Omega.{arith}
 use borrow.Author.Rules.{rules}
 use lib.ListN.{length, get_or, take, drop, length-drop, length-set}
 use lib.Seq.{get_or-drop, length-take-le}
-use Rattle.base.proofs.Fronts.{front-none, front-next, front-whole}
+use Rattle.base.proofs.Fronts.{front_none, front_next, front_whole}
 use Rattle.base.specs.Answers.{front}
-use Rattle.words.proofs.Positions.{text-most}
-use Rattle.index.specs.Arrays.{arrays, textIn}
+use Rattle.words.proofs.Positions.{text_most}
+use Rattle.index.specs.Arrays.{arrays, text_in}
 use Rattle.passages.proofs.read_passage.Statement.{statement}
 use Rattle.passages.proofs.read_passage.Tie as tie
 
 abbrev invariant-loop : tie.invariant-loop
-invariant-loop s shape lengths bytes superblocks blocks starts place ranks₀ i₀ ranks i = (i ≤ length ranks₀) × (ranks ≡ front (take i (drop place.0 (textIn s (arrays lengths bytes superblocks blocks)))) ranks₀) × (length ranks ≡ length ranks₀)
+invariant-loop s shape lengths bytes superblocks blocks starts place ranks₀ i₀ ranks i = (i ≤ length ranks₀) × (ranks ≡ front (take i (drop place.0 (text_in s (arrays lengths bytes superblocks blocks)))) ranks₀) × (length ranks ≡ length ranks₀)
 
 abbrev decreases-loop : tie.decreases-loop
 decreases-loop s shape lengths bytes superblocks blocks starts place ranks₀ i₀ ranks i = length ranks₀ - i
 
 loop-holds : tie.Need-loop-init invariant-loop decreases-loop
-loop-holds c = (omega arith, sym (front-none c.before.before.before.before.before.before.args.ranks.now), refl)
+loop-holds c = (omega arith, sym (front_none c.before.before.before.before.before.before.args.ranks.now), refl)
 
 add-ranks : tie.Need-overflow-add-ranks invariant-loop decreases-loop
 add-ranks c =
     let st = c.before.before.before.before.before.before.before.before.before in
-    omega (arith, st.requires.1, text-most st.requires.0.checked)
+    omega (arith, st.requires.1, text_most st.requires.0.checked)
 
 word-at-requires : tie.Need-word-at-requires invariant-loop decreases-loop
 word-at-requires c κs =
@@ -46,11 +46,11 @@ loop-less c = search rules
 loop-again : tie.Need-loop-preserved invariant-loop decreases-loop
 loop-again c =
     let st = c.before.before.before.before.before.before.before.before.before.before in
-    let t = textIn st.args.s (arrays st.args.lengths.now st.args.bytes.now st.args.superblocks.now st.args.blocks.now) in
+    let t = text_in st.args.s (arrays st.args.lengths.now st.args.bytes.now st.args.superblocks.now st.args.blocks.now) in
     let l = c.before.before.before.loop in
     let here : c.word_at.result ≡ get_or (drop st.args.place.0 t) l.i 0 = c.word_at.ensures ∙ sym (get_or-drop st.args.place.0 t l.i 0) in (
       omega arith,
-      rw (l.invariant.1, here) (front-next (drop st.args.place.0 t) st.args.ranks.now l.i (omega (arith, st.requires.1, length-drop st.args.place.0 t)) (omega arith)),
+      rw (l.invariant.1, here) (front_next (drop st.args.place.0 t) st.args.ranks.now l.i (omega (arith, st.requires.1, length-drop st.args.place.0 t)) (omega arith)),
       length-set l.ranks l.i c.word_at.result ∙ l.invariant.2,
     )
 
@@ -60,13 +60,13 @@ same_length c = c.before.loop.invariant.2
 returns : tie.Need-returns invariant-loop decreases-loop
 returns c =
     let st = c.before.before.before.before.before.before.before.before in
-    let t = textIn st.args.s (arrays st.args.lengths.now st.args.bytes.now st.args.superblocks.now st.args.blocks.now) in
+    let t = text_in st.args.s (arrays st.args.lengths.now st.args.bytes.now st.args.superblocks.now st.args.blocks.now) in
     let l = c.before.loop in
     let m = length st.args.ranks.now in
     let e : l.i ≡ m = omega arith in
     let n : length (take m (drop st.args.place.0 t)) ≡ m = length-take-le m (drop st.args.place.0 t) (omega (arith, st.requires.1, length-drop st.args.place.0 t)) in
     l.invariant.1 ∙ ap (λ (k : ℕ). front (take k (drop st.args.place.0 t)) st.args.ranks.now) e
-    ∙ front-whole (take m (drop st.args.place.0 t)) st.args.ranks.now n
+    ∙ front_whole (take m (drop st.args.place.0 t)) st.args.ranks.now n
 
 pub read-passage-spec : {M : Type 1} → statement M
 read-passage-spec =

@@ -3,7 +3,7 @@ use mathlib.Core.Path.{refl, sym, ap, ◌∙◌}
 use native.Mathlib.Omega.{arith}
 use borrow.Author.Rules.{rules}
 use Rattle.base.specs.Answers.{accepted}
-use Rattle.questions.proofs.NoWords.{no-words-counted, no-words-past}
+use Rattle.questions.proofs.NoWords.{no_words_counted, no_words_past}
 use Rattle.phrase_checks.proofs.answer_no_words.Statement.{statement}
 use Rattle.phrase_checks.proofs.answer_no_words.Tie as tie
 
@@ -16,7 +16,7 @@ accepted-requires c κs = search rules
 returns : tie.Need-returns
 returns c vocab t documents e =
     let st = c.before.before.before in
-    c.accepted.ensures ∙ ap accepted (omega arith) ∙ sym (no-words-counted vocab t documents st.args.words.now st.args.start 0 refl (omega (arith, c.before.if1.true)))
+    c.accepted.ensures ∙ ap accepted (omega arith) ∙ sym (no_words_counted vocab t documents st.args.words.now st.args.start 0 refl (omega (arith, c.before.if1.true)))
 
 refused-requires : tie.Need-refused-requires
 refused-requires c κs = search rules
@@ -24,7 +24,7 @@ refused-requires c κs = search rules
 returns-2 : tie.Need-returns-2
 returns-2 c vocab t documents e =
     let st = c.before.before.before in
-    c.refused.ensures ∙ sym (no-words-past vocab t documents st.args.words.now st.args.start 0 refl (omega (arith, c.before.if1.false)))
+    c.refused.ensures ∙ sym (no_words_past vocab t documents st.args.words.now st.args.start 0 refl (omega (arith, c.before.if1.false)))
 
 pub answer-no-words-spec : {M : Type 1} → statement M
 answer-no-words-spec = tie.close (tie.spec add-accepted accepted-requires returns refused-requires returns-2)

@@ -8,7 +8,7 @@ use borrow.Author.Tests.{eq-eqb, ne_eqb}
 use borrow.Author.Rules.{rules}
 use lib.Dec.{eqb}
 use lib.ListN.{length, get_or}
-use Rattle.base.proofs.Lists.{first-where-at, first-where-none}
+use Rattle.base.proofs.Lists.{first_where_at, first_where_none}
 use Rattle.phrase_checks.proofs.first_of.Statement.{statement}
 use Rattle.phrase_checks.proofs.first_of.Tie as tie
 
@@ -33,7 +33,7 @@ cast-rank c = omega (arith, c.shared-slice-known.given c.before.before.loop.plac
 returns : tie.Need-returns invariant-loop decreases-loop
 returns c =
     let loop = c.before.before.before in
-    sym (first-where-at (λ (w : ℕ). eqb w loop.before.args.sought) loop.before.args.phrase.now 0 loop.loop.place (omega arith) loop.loop.invariant.1 (eq-eqb _ _ c.if1.true))
+    sym (first_where_at (λ (w : ℕ). eqb w loop.before.args.sought) loop.before.args.phrase.now 0 loop.loop.place (omega arith) loop.loop.invariant.1 (eq-eqb _ _ c.if1.true))
 
 add-place : tie.Need-overflow-add-place invariant-loop decreases-loop
 add-place c = search rules
@@ -48,7 +48,7 @@ returns-2 : tie.Need-returns-2 invariant-loop decreases-loop
 returns-2 c =
     let loop = c.before in
     let end : loop.loop.place ≡ length loop.before.args.phrase.now = omega arith in
-    sym (first-where-none (λ (w : ℕ). eqb w loop.before.args.sought) loop.before.args.phrase.now 0 (rw (← end) loop.loop.invariant.1) ∙ sym end)
+    sym (first_where_none (λ (w : ℕ). eqb w loop.before.args.sought) loop.before.args.phrase.now 0 (rw (← end) loop.loop.invariant.1) ∙ sym end)
 
 pub first-of-spec : {M : Type 1} → statement M
 first-of-spec =

@@ -5,8 +5,8 @@ use native.Mathlib.Omega.{arith}
 use borrow.Author.Rules.{rules}
 use lib.Dec.{eqb, ltb}
 use lib.ListN.{take, drop}
-use Rattle.base.specs.Lists.{firstWhere}
-use Rattle.questions.specs.Answering.{hasAbsent, phraseIn}
+use Rattle.base.specs.Lists.{first_where}
+use Rattle.questions.specs.Answering.{has_absent, phrase_in}
 use Rattle.questions.proofs.Answered.{part_length}
 use Rattle.phrase_checks.proofs.has_absent.Statement.{statement}
 use Rattle.phrase_checks.proofs.has_absent.Tie as tie
@@ -30,11 +30,11 @@ first-of-requires : tie.Need-first-of-requires
 first-of-requires c κs = search rules
 
 returns : tie.Need-returns
-unfolding hasAbsent phraseIn
+unfolding has_absent phrase_in
 returns c =
     let st = c.before.before.before in
     let m : st.args.start + st.args.count - st.args.start ≡ st.args.count = omega arith in
-    let f = c.first_of.ensures ∙ ap (λ (k : ℕ). firstWhere (λ (w : ℕ). eqb w st.args.vocabulary) (take k (drop st.args.start st.args.words.now))) m in
+    let f = c.first_of.ensures ∙ ap (λ (k : ℕ). first_where (λ (w : ℕ). eqb w st.args.vocabulary) (take k (drop st.args.start st.args.words.now))) m in
     ap₂ ltb f (sym (part_length st.args.vocabulary st.args.words.now st.args.start st.args.count st.requires))
 
 pub has-absent-spec : {M : Type 1} → statement M

@@ -4,19 +4,19 @@ use mathlib.Core.Path.{◌≡◌, sym}
 use native.Mathlib.Omega.{arith}
 use borrow.Author.Rules.{rules}
 use lib.ListN.{length}
-use Rattle.questions.proofs.Answered.{phrase-long, phrase-past, phrase-rank, phrase-none, part-above, part-askable}
+use Rattle.questions.proofs.Answered.{phrase_long, phrase_past, phrase_rank, phrase_none, part_above, part_askable}
 use Rattle.phrase_checks.proofs.phrase_refusal.Statement.{statement}
 use Rattle.phrase_checks.proofs.phrase_refusal.Tie as tie
 
 returns : tie.Need-returns
 returns c =
     let st = c.before.before in
-    sym (phrase-long st.args.vocabulary st.args.words.now st.args.start st.args.count c.if1.true)
+    sym (phrase_long st.args.vocabulary st.args.words.now st.args.start st.args.count c.if1.true)
 
 returns-2 : tie.Need-returns-2
 returns-2 c =
     let st = c.before.before.before in
-    sym (phrase-past st.args.vocabulary st.args.words.now st.args.start st.args.count (omega (arith, c.if2.true)))
+    sym (phrase_past st.args.vocabulary st.args.words.now st.args.start st.args.count (omega (arith, c.if2.true)))
 
 sub-if3 : tie.Need-overflow-sub-if3
 sub-if3 c = search rules
@@ -24,7 +24,7 @@ sub-if3 c = search rules
 returns-3 : tie.Need-returns-3
 returns-3 c =
     let st = c.before.before.before.before in
-    sym (phrase-past st.args.vocabulary st.args.words.now st.args.start st.args.count (omega (arith, c.if3.true, c.before.if2.false)))
+    sym (phrase_past st.args.vocabulary st.args.words.now st.args.start st.args.count (omega (arith, c.if3.true, c.before.if2.false)))
 
 add-end : tie.Need-overflow-add-end
 add-end c = search rules
@@ -49,16 +49,16 @@ returns-4 c =
     let st = c.before.before.before.before.before.before.before in
     let m : st.args.start + st.args.count - st.args.start ≡ st.args.count = omega arith in
     let inside : st.args.start + st.args.count ≤ length st.args.words.now = omega (arith, c.before.before.before.if3.false, c.before.before.before.before.if2.false) in
-    sym (phrase-rank st.args.vocabulary st.args.words.now st.args.start st.args.count c.before.before.before.before.before.if1.false inside
-    (part-above st.args.vocabulary st.args.words.now st.args.start st.args.count inside (st.args.start + st.args.count - st.args.start) c.before.first_above.result m c.before.first_above.ensures c.if4.true))
+    sym (phrase_rank st.args.vocabulary st.args.words.now st.args.start st.args.count c.before.before.before.before.before.if1.false inside
+    (part_above st.args.vocabulary st.args.words.now st.args.start st.args.count inside (st.args.start + st.args.count - st.args.start) c.before.first_above.result m c.before.first_above.ensures c.if4.true))
 
 returns-5 : tie.Need-returns-5
 returns-5 c =
     let st = c.before.before.before.before.before.before.before in
     let m : st.args.start + st.args.count - st.args.start ≡ st.args.count = omega arith in
     let inside : st.args.start + st.args.count ≤ length st.args.words.now = omega (arith, c.before.before.before.if3.false, c.before.before.before.before.if2.false) in
-    sym (phrase-none st.args.vocabulary st.args.words.now st.args.start st.args.count c.before.before.before.before.before.if1.false inside
-    (part-askable st.args.vocabulary st.args.words.now st.args.start st.args.count inside (st.args.start + st.args.count - st.args.start) c.before.first_above.result m c.before.first_above.ensures c.if4.false))
+    sym (phrase_none st.args.vocabulary st.args.words.now st.args.start st.args.count c.before.before.before.before.before.if1.false inside
+    (part_askable st.args.vocabulary st.args.words.now st.args.start st.args.count inside (st.args.start + st.args.count - st.args.start) c.before.first_above.result m c.before.first_above.ensures c.if4.false))
 
 pub phrase-refusal-spec : {M : Type 1} → statement M
 phrase-refusal-spec =

@@ -1,8 +1,8 @@
 -- `plain_text::read_text` meets its contract: the constant is the letter table, which keeps the rules. Assumes nothing.
 use borrow.Author.Rules.{rules}
 use Rattle.base.specs.Texts.{outside}
-use Rattle.lexicon.proofs.Tables.{letters-rule}
-use Rattle.lexicon.specs.Letters.{within, letterOf, letters}
+use Rattle.lexicon.proofs.Tables.{letters_rule}
+use Rattle.lexicon.specs.Letters.{within, letter_of, letters}
 use Rattle.plain_text.proofs.read_text.Statement.{statement}
 use Rattle.plain_text.proofs.read_text.Tie as tie
 
@@ -10,14 +10,14 @@ slice-aggregate-read-text-by : tie.Need-slice-aggregate-read-text-by
 slice-aggregate-read-text-by c = search rules
 
 read-text-by-requires : tie.Need-read-text-by-requires
-unfolding within outside letterOf letters
-read-text-by-requires c κs = letters-rule
+unfolding within outside letter_of letters
+read-text-by-requires c κs = letters_rule
 
 same_length : tie.Need-same-length
 same_length c = search rules
 
 returns : tie.Need-returns
-unfolding within outside letterOf letters
+unfolding within outside letter_of letters
 returns c = c.before.before.read-text-by.ensures
 
 pub read-text-spec : {M : Type 1} → statement M

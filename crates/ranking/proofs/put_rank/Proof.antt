@@ -1,7 +1,7 @@
 -- `ranking::put_rank` meets its contract. Assumes nothing.
 use mathlib.Core.Path.{sym}
 use borrow.Author.Rules.{rules}
-use Rattle.base.proofs.Tests.{cond_below, cond-not-below}
+use Rattle.base.proofs.Tests.{cond_below, cond_not_below}
 use Rattle.ranking.proofs.put_rank.Statement.{statement}
 use Rattle.ranking.proofs.put_rank.Tie as tie
 
@@ -27,7 +27,7 @@ returns : tie.Need-returns
 returns c = sym (cond_below _ _ 0 c.before.args.found c.if1.true)
 
 returns-2 : tie.Need-returns-2
-returns-2 c = sym (cond-not-below _ _ 0 c.before.args.found c.if1.false)
+returns-2 c = sym (cond_not_below _ _ 0 c.before.args.found c.if1.false)
 
 pub put-rank-spec : {M : Type 1} → statement M
 put-rank-spec =

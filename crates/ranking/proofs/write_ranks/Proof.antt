@@ -4,26 +4,26 @@ use mathlib.Core.Path.{◌≡◌}
 use native.Mathlib.Omega.{arith}
 use borrow.Author.Rules.{rules}
 use lib.ListN.{length, drop}
-use Rattle.hashing.specs.HashTables.{maxPart, Room}
-use Rattle.lexicon.specs.Reading.{textWords, spellings}
+use Rattle.hashing.specs.HashTables.{max_part, Room}
+use Rattle.lexicon.specs.Reading.{text_words, spellings}
 use Rattle.scanning.proofs.Scans.{begins}
-use Rattle.scanning.specs.Scans.{wordsAt, WordBegins}
-use Rattle.ranking.proofs.Ranks.{RanksTo, ranks-none, ranks-more, ranks-all}
-use Rattle.hashing.proofs.Parts.{words_left, words-before-first, words-before-more}
+use Rattle.scanning.specs.Scans.{words_at, WordBegins}
+use Rattle.ranking.proofs.Ranks.{RanksTo, ranks_none, ranks_more, ranks_all}
+use Rattle.hashing.proofs.Parts.{words_left, words_before_first, words_before_more}
 use Rattle.ranking.proofs.write_ranks.Statement.{statement}
 use Rattle.ranking.proofs.write_ranks.Tie as tie
 
 abbrev invariant-loop : tie.invariant-loop
 invariant-loop table list words heads₀ links₀ starts₀ text size ranks₀ from₀ first₀ heads links starts ranks from first =
-    (first ≤ words) × WordBegins table list from × (wordsAt table list from ≡ drop first (textWords table list))
-    × RanksTo (spellings table list) (textWords table text) first ranks₀ ranks × Room heads links starts
+    (first ≤ words) × WordBegins table list from × (words_at table list from ≡ drop first (text_words table list))
+    × RanksTo (spellings table list) (text_words table text) first ranks₀ ranks × Room heads links starts
 
 abbrev decreases-loop : tie.decreases-loop
 decreases-loop table list words heads₀ links₀ starts₀ text size ranks₀ from₀ first₀ heads links starts ranks from first = words - first
 
 -- the part is inside the list
 inside_of : (c : tie.After-least invariant-loop decreases-loop)
-    → (c.least.result ≤ maxPart) × (c.least.result ≤ length (wordsAt c.before.before.before.before.before.before.before.before.before.before.before.args.table.now c.before.before.before.before.before.before.before.before.before.before.before.args.list.now c.before.before.loop.from))
+    → (c.least.result ≤ max_part) × (c.least.result ≤ length (words_at c.before.before.before.before.before.before.before.before.before.before.before.args.table.now c.before.before.before.before.before.before.before.before.before.before.before.args.list.now c.before.before.loop.from))
     × (c.before.before.loop.first + c.least.result ≤ length (spellings c.before.before.before.before.before.before.before.before.before.before.before.args.table.now c.before.before.before.before.before.before.before.before.before.before.before.args.list.now))
 inside_of c =
     let start = c.before.before.before.before.before.before.before.before.before.before.before in
@@ -40,8 +40,8 @@ loop-holds : tie.Need-loop-init invariant-loop decreases-loop
 loop-holds c = let a = c.before.before.before.before.before.before.before.before.args in (
   omega arith,
   rw c.word-start.ensures (begins a.table.now a.list.now 0 (omega arith)),
-  rw c.word-start.ensures (words-before-first a.table.now a.list.now),
-  ranks-none (spellings a.table.now a.list.now) (textWords a.table.now a.text.now) a.ranks.now,
+  rw c.word-start.ensures (words_before_first a.table.now a.list.now),
+  ranks_none (spellings a.table.now a.list.now) (text_words a.table.now a.text.now) a.ranks.now,
   c.before.before.before.before.before.before.before.before.requires.2,
 )
 
@@ -74,8 +74,8 @@ loop-again c = let start = c.before.before.before.before.before.before.before.be
     let i = inside_of c.before.before.before.before.before.before.before.before.before.before.before.before.before.before.before.before.before in (
       omega (arith, i.2, start.requires.0.all),
       hashed.1,
-      words-before-more a.table.now a.list.now loop.from loop.first c.before.before.before.before.before.before.before.before.before.before.before.before.before.hash-part.result count loop.invariant.2 hashed.2,
-      ranks-more a.table.now a.list.now loop.from loop.first count loop.invariant.2 i.2 start.requires.0.once (textWords a.table.now a.text.now) a.ranks.now loop.ranks _ loop.invariant.3 c.before.before.write-found.ensures,
+      words_before_more a.table.now a.list.now loop.from loop.first c.before.before.before.before.before.before.before.before.before.before.before.before.before.hash-part.result count loop.invariant.2 hashed.2,
+      ranks_more a.table.now a.list.now loop.from loop.first count loop.invariant.2 i.2 start.requires.0.once (text_words a.table.now a.text.now) a.ranks.now loop.ranks _ loop.invariant.3 c.before.before.write-found.ensures,
       search rules,
     )
 
@@ -83,7 +83,7 @@ returns : tie.Need-returns invariant-loop decreases-loop
 unfolding spellings
 returns c = let start = c.before.before.before.before.before.before.before.before.before.before in
     let a = start.args in
-    ranks-all (spellings a.table.now a.list.now) (textWords a.table.now a.text.now) c.before.loop.first a.ranks.now c.before.loop.ranks
+    ranks_all (spellings a.table.now a.list.now) (text_words a.table.now a.text.now) c.before.loop.first a.ranks.now c.before.loop.ranks
     (omega (arith, start.requires.0.all, c.loop-test.false)) (omega (arith, start.requires.0.sized, start.requires.1)) (λ p h. start.requires.0.listed p (omega (arith, start.requires.0.sized, h))) c.before.loop.invariant.3
 
 same_length : tie.Need-same-length invariant-loop decreases-loop

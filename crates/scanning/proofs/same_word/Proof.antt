@@ -5,8 +5,8 @@ use native.Mathlib.Omega.{arith}
 use borrow.Author.Rules.{rules}
 use lib.ListN.{length}
 use Rattle.base.specs.Lists.{same}
-use Rattle.scanning.proofs.Scans.{letter-below, same-letter, other-letter, both_end}
-use Rattle.scanning.specs.Scans.{letterAt, run_at}
+use Rattle.scanning.proofs.Scans.{letter_below, same_letter, other_letter, both_end}
+use Rattle.scanning.specs.Scans.{letter_at, run_at}
 use Rattle.scanning.proofs.same_word.Statement.{statement}
 use Rattle.scanning.proofs.same_word.Tie as tie
 
@@ -19,13 +19,13 @@ decreases-loop table text start list at i₀ i = length text - (start + i)
 
 -- past the first test, the letters agree
 agree : (c : tie.Else1 invariant-loop decreases-loop)
-    → letterAt c.before.before.before.before.before.before.before.args.table.now c.before.before.before.before.before.before.before.args.text.now (c.before.before.before.before.before.before.before.args.start + c.before.before.before.loop.i)
-    ≡ letterAt c.before.before.before.before.before.before.before.args.table.now c.before.before.before.before.before.before.before.args.list.now (c.before.before.before.before.before.before.before.args.at + c.before.before.before.loop.i)
+    → letter_at c.before.before.before.before.before.before.before.args.table.now c.before.before.before.before.before.before.before.args.text.now (c.before.before.before.before.before.before.before.args.start + c.before.before.before.loop.i)
+    ≡ letter_at c.before.before.before.before.before.before.before.args.table.now c.before.before.before.before.before.before.before.args.list.now (c.before.before.before.before.before.before.before.args.at + c.before.before.before.loop.i)
 agree c = sym c.before.before.letter_at.ensures ∙ c.if1.false ∙ c.before.letter-at2.ensures
 
 -- past the second, they are letters
 lettered : (c : tie.Else2 invariant-loop decreases-loop)
-    → letterAt c.before.before.before.before.before.before.before.before.args.table.now c.before.before.before.before.before.before.before.before.args.text.now (c.before.before.before.before.before.before.before.before.args.start + c.before.before.before.before.loop.i) ≡ 0 → ⊥
+    → letter_at c.before.before.before.before.before.before.before.before.args.table.now c.before.before.before.before.before.before.before.before.args.text.now (c.before.before.before.before.before.before.before.before.args.start + c.before.before.before.before.loop.i) ≡ 0 → ⊥
 lettered c q = c.if2.false (c.before.before.before.letter_at.ensures ∙ q)
 
 loop-holds : tie.Need-loop-init invariant-loop decreases-loop
@@ -50,7 +50,7 @@ letter-at-requires-2 c κs = search rules
 returns : tie.Need-returns invariant-loop decreases-loop
 returns c = let a = c.before.before.before.before.before.before.before.args in
     let loop = c.before.before.before.loop in
-    sym (loop.invariant.2 ∙ other-letter a.table.now a.text.now a.list.now (a.start + loop.i) (a.at + loop.i)
+    sym (loop.invariant.2 ∙ other_letter a.table.now a.text.now a.list.now (a.start + loop.i) (a.at + loop.i)
     (λ q. c.if1.true (c.before.before.letter_at.ensures ∙ q ∙ sym c.before.letter-at2.ensures)))
 
 returns-2 : tie.Need-returns-2 invariant-loop decreases-loop
@@ -65,16 +65,16 @@ add-i c = search rules
 loop-less : tie.Need-loop-smaller invariant-loop decreases-loop
 loop-less c = let a = c.before.before.before.before.before.before.before.before.args in
     let loop = c.before.before.before.before.loop in
-    omega (arith, letter-below a.table.now a.text.now (a.start + loop.i) (lettered c))
+    omega (arith, letter_below a.table.now a.text.now (a.start + loop.i) (lettered c))
 
 loop-again : tie.Need-loop-preserved invariant-loop decreases-loop
 loop-again c = let a = c.before.before.before.before.before.before.before.before.args in
     let loop = c.before.before.before.before.loop in
     let e : a.start + loop.i + 1 ≡ a.start + (loop.i + 1) = omega arith in
     let f : a.at + loop.i + 1 ≡ a.at + (loop.i + 1) = omega arith in (
-      omega (arith, letter-below a.table.now a.text.now (a.start + loop.i) (lettered c)),
-      omega (arith, letter-below a.table.now a.list.now (a.at + loop.i) (λ q. lettered c (agree c.before ∙ q))),
-      loop.invariant.2 ∙ same-letter a.table.now a.text.now a.list.now (a.start + loop.i) (a.at + loop.i) (agree c.before) (lettered c)
+      omega (arith, letter_below a.table.now a.text.now (a.start + loop.i) (lettered c)),
+      omega (arith, letter_below a.table.now a.list.now (a.at + loop.i) (λ q. lettered c (agree c.before ∙ q))),
+      loop.invariant.2 ∙ same_letter a.table.now a.text.now a.list.now (a.start + loop.i) (a.at + loop.i) (agree c.before) (lettered c)
           ∙ ap₂ (λ (m n : ℕ). same (run_at a.table.now a.text.now m) (run_at a.table.now a.list.now n)) e f,
     )
 

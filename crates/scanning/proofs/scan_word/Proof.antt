@@ -5,21 +5,21 @@ use mathlib.Core.List.{[], ◌∷◌}
 use native.Mathlib.Omega.{arith}
 use borrow.Author.Rules.{rules}
 use lib.ListN.{length, get_or}
-use Rattle.lexicon.proofs.Tables.{table-sized}
-use Rattle.scanning.proofs.Scans.{run-at-letter, run-at-separator, run-at-end, bucket-first}
-use Rattle.scanning.specs.Scans.{run_at, buckets, bucketFrom, bucketOf}
+use Rattle.lexicon.proofs.Tables.{table_sized}
+use Rattle.scanning.proofs.Scans.{run_at_letter, run_at_separator, run_at_end, bucket_first}
+use Rattle.scanning.specs.Scans.{run_at, buckets, bucket_from, bucket_of}
 use Rattle.scanning.proofs.scan_word.Statement.{statement}
 use Rattle.scanning.proofs.scan_word.Tie as tie
 
 abbrev invariant-loop : tie.invariant-loop
 invariant-loop table text start bucket₀ end₀ bucket end = (end ≤ length text) × (bucket < buckets) × (start + length (run_at table text start) ≡ end + length (run_at table text end))
-    × (bucketOf (run_at table text start) ≡ bucketFrom bucket (run_at table text end))
+    × (bucket_of (run_at table text start) ≡ bucket_from bucket (run_at table text end))
 
 abbrev decreases-loop : tie.decreases-loop
 decreases-loop table text start bucket₀ end₀ bucket end = length text - end
 
 loop-holds : tie.Need-loop-init invariant-loop decreases-loop
-loop-holds c = (omega arith, omega arith, refl, bucket-first (run_at c.args.table.now c.args.text.now c.args.start))
+loop-holds c = (omega arith, omega arith, refl, bucket_first (run_at c.args.table.now c.args.text.now c.args.start))
 
 shared-slice-read-byte : tie.Need-shared-slice-read-byte invariant-loop decreases-loop
 shared-slice-read-byte c = search rules
@@ -29,7 +29,7 @@ cast-byte c = omega (arith, c.shared-slice-known.given c.before.before.loop.end)
 
 shared-slice-read-letter : tie.Need-shared-slice-read-letter invariant-loop decreases-loop
 shared-slice-read-letter c = let start = c.before.before.before.before in
-    omega (arith, c.before.shared-slice-known.given c.before.before.before.loop.end, table-sized start.args.table.now start.requires.0)
+    omega (arith, c.before.shared-slice-known.given c.before.before.before.loop.end, table_sized start.args.table.now start.requires.0)
 
 cast-letter : tie.Need-overflow-cast-letter invariant-loop decreases-loop
 cast-letter c = omega (arith, c.shared-slice-known2.given (get_or c.before.before.before.before.args.text.now c.before.before.before.loop.end 0))
@@ -37,8 +37,8 @@ cast-letter c = omega (arith, c.shared-slice-known2.given (get_or c.before.befor
 returns : tie.Need-returns invariant-loop decreases-loop
 returns c = let start = c.before.before.before.before.before in
     let loop = c.before.before.before.before.loop in
-    let none : run_at start.args.table.now start.args.text.now loop.end ≡ [] = run-at-separator start.args.table.now start.args.text.now loop.end c.before.before.before.loop-test.true c.if1.true in
-    (omega (arith, ap length none, loop.invariant.2), sym (loop.invariant.3 ∙ ap (bucketFrom loop.bucket) none))
+    let none : run_at start.args.table.now start.args.text.now loop.end ≡ [] = run_at_separator start.args.table.now start.args.text.now loop.end c.before.before.before.loop-test.true c.if1.true in
+    (omega (arith, ap length none, loop.invariant.2), sym (loop.invariant.3 ∙ ap (bucket_from loop.bucket) none))
 
 mul-bucket : tie.Need-overflow-mul-bucket invariant-loop decreases-loop
 mul-bucket c = omega (arith, c.before.before.before.before.loop.invariant.1)
@@ -56,14 +56,14 @@ loop-again : tie.Need-loop-preserved invariant-loop decreases-loop
 loop-again c = let start = c.before.before.before.before.before in
     let loop = c.before.before.before.before.loop in
     let more : run_at start.args.table.now start.args.text.now loop.end ≡ get_or start.args.table.now (get_or start.args.text.now loop.end 0) 0 ∷ run_at start.args.table.now start.args.text.now (loop.end + 1) =
-    run-at-letter start.args.table.now start.args.text.now loop.end c.before.before.before.loop-test.true c.if1.false in
-    (omega arith, omega arith, omega (arith, ap length more, loop.invariant.2), loop.invariant.3 ∙ ap (bucketFrom loop.bucket) more)
+    run_at_letter start.args.table.now start.args.text.now loop.end c.before.before.before.loop-test.true c.if1.false in
+    (omega arith, omega arith, omega (arith, ap length more, loop.invariant.2), loop.invariant.3 ∙ ap (bucket_from loop.bucket) more)
 
 returns-2 : tie.Need-returns-2 invariant-loop decreases-loop
 returns-2 c = let start = c.before.before in
     let loop = c.before.loop in
-    let none : run_at start.args.table.now start.args.text.now loop.end ≡ [] = run-at-end start.args.table.now start.args.text.now loop.end c.loop-test.false in
-    (omega (arith, ap length none, loop.invariant.2), sym (loop.invariant.3 ∙ ap (bucketFrom loop.bucket) none))
+    let none : run_at start.args.table.now start.args.text.now loop.end ≡ [] = run_at_end start.args.table.now start.args.text.now loop.end c.loop-test.false in
+    (omega (arith, ap length none, loop.invariant.2), sym (loop.invariant.3 ∙ ap (bucket_from loop.bucket) none))
 
 pub scan-word-spec : {M : Type 1} → statement M
 scan-word-spec =

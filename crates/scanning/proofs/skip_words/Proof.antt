@@ -5,12 +5,12 @@ use native.Mathlib.Omega.{arith}
 use borrow.Author.Rules.{rules}
 use lib.ListN.{length, drop}
 use Rattle.scanning.proofs.Scans.{Next, next, left_step, some_left, none}
-use Rattle.scanning.specs.Scans.{wordsAt, run_at, startFrom, WordBegins}
+use Rattle.scanning.specs.Scans.{words_at, run_at, start_from, WordBegins}
 use Rattle.scanning.proofs.skip_words.Statement.{statement}
 use Rattle.scanning.proofs.skip_words.Tie as tie
 
 abbrev invariant-loop : tie.invariant-loop
-invariant-loop table text at size start₀ left₀ start left = WordBegins table text start × (left ≤ length (wordsAt table text start)) × (drop left (wordsAt table text start) ≡ drop size (wordsAt table text at))
+invariant-loop table text at size start₀ left₀ start left = WordBegins table text start × (left ≤ length (words_at table text start)) × (drop left (words_at table text start) ≡ drop size (words_at table text at))
 
 abbrev decreases-loop : tie.decreases-loop
 decreases-loop table text at size start₀ left₀ start left = left
@@ -22,9 +22,9 @@ next_of c =
     next a.table.now a.text.now loop.start loop.invariant.0 (some_left a.table.now a.text.now loop.start (omega (arith, c.loop-test.true, loop.invariant.1)))
 
 -- the next word begins behind the end of this one
-stepped : (c : tie.After-word-start invariant-loop decreases-loop) → c.word-start.result ≡ startFrom c.before.before.before.before.before.before.args.table.now c.before.before.before.before.before.before.args.text.now
+stepped : (c : tie.After-word-start invariant-loop decreases-loop) → c.word-start.result ≡ start_from c.before.before.before.before.before.before.args.table.now c.before.before.before.before.before.before.args.text.now
     (c.before.before.before.loop.start + length (run_at c.before.before.before.before.before.before.args.table.now c.before.before.before.before.before.before.args.text.now c.before.before.before.loop.start))
-stepped c = c.word-start.ensures ∙ ap (startFrom c.before.before.before.before.before.before.args.table.now c.before.before.before.before.before.before.args.text.now) c.before.scan-word.ensures.0
+stepped c = c.word-start.ensures ∙ ap (start_from c.before.before.before.before.before.before.args.table.now c.before.before.before.before.before.before.args.text.now) c.before.scan-word.ensures.0
 
 loop-holds : tie.Need-loop-init invariant-loop decreases-loop
 loop-holds c = (c.before.before.requires.1, c.before.before.requires.2, refl)
@@ -49,7 +49,7 @@ loop-again c = let a = c.before.before.before.before.before.before.args in
     rw (stepped c) (n.begun, s.1, sym s.0 ∙ loop.invariant.2)
 
 returns : tie.Need-returns invariant-loop decreases-loop
-returns c = (c.before.loop.invariant.0, ap (λ (k : ℕ). drop k (wordsAt c.before.before.before.before.args.table.now c.before.before.before.before.args.text.now c.before.loop.start)) (sym (none c.before.loop.left c.loop-test.false)) ∙ c.before.loop.invariant.2)
+returns c = (c.before.loop.invariant.0, ap (λ (k : ℕ). drop k (words_at c.before.before.before.before.args.table.now c.before.before.before.before.args.text.now c.before.loop.start)) (sym (none c.before.loop.left c.loop-test.false)) ∙ c.before.loop.invariant.2)
 
 pub skip-words-spec : {M : Type 1} → statement M
 skip-words-spec =

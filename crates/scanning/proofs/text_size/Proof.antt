@@ -3,14 +3,14 @@ use Prim.Native.Nat.{ℕ, ◌+◌, ◌-◌, ◌≤◌}
 use mathlib.Core.Path.{◌≡◌, ap, ◌∙◌}
 use native.Mathlib.Omega.{arith}
 use lib.ListN.{length}
-use Rattle.lexicon.specs.Reading.{textWords}
-use Rattle.scanning.proofs.Scans.{begins, words-end, Next, next, words-first}
-use Rattle.scanning.specs.Scans.{wordsAt, run_at, startFrom, WordBegins}
+use Rattle.lexicon.specs.Reading.{text_words}
+use Rattle.scanning.proofs.Scans.{begins, words_end, Next, next, words_first}
+use Rattle.scanning.specs.Scans.{words_at, run_at, start_from, WordBegins}
 use Rattle.scanning.proofs.text_size.Statement.{statement}
 use Rattle.scanning.proofs.text_size.Tie as tie
 
 abbrev invariant-loop : tie.invariant-loop
-invariant-loop table text words₀ start₀ words start = WordBegins table text start × (words ≤ start) × (words + length (wordsAt table text start) ≡ length (textWords table text))
+invariant-loop table text words₀ start₀ words start = WordBegins table text start × (words ≤ start) × (words + length (words_at table text start) ≡ length (text_words table text))
 
 abbrev decreases-loop : tie.decreases-loop
 decreases-loop table text words₀ start₀ words start = length text - start
@@ -19,9 +19,9 @@ next_of : (c : tie.In-loop invariant-loop decreases-loop) → Next c.before.befo
 next_of c = next _ _ c.before.loop.start c.before.loop.invariant.0 c.loop-test.true
 
 -- the next word begins behind the end of this one
-stepped : (c : tie.After-word-start2 invariant-loop decreases-loop) → c.word-start2.result ≡ startFrom c.before.before.before.before.before.before.before.args.table.now c.before.before.before.before.before.before.before.args.text.now
+stepped : (c : tie.After-word-start2 invariant-loop decreases-loop) → c.word-start2.result ≡ start_from c.before.before.before.before.before.before.before.args.table.now c.before.before.before.before.before.before.before.args.text.now
     (c.before.before.before.loop.start + length (run_at c.before.before.before.before.before.before.before.args.table.now c.before.before.before.before.before.before.before.args.text.now c.before.before.before.loop.start))
-stepped c = c.word-start2.ensures ∙ ap (startFrom c.before.before.before.before.before.before.before.args.table.now c.before.before.before.before.before.before.before.args.text.now) c.before.scan-word.ensures.0
+stepped c = c.word-start2.ensures ∙ ap (start_from c.before.before.before.before.before.before.before.args.table.now c.before.before.before.before.before.before.before.args.text.now) c.before.scan-word.ensures.0
 
 word-start-requires : tie.Need-word-start-requires invariant-loop decreases-loop
 word-start-requires c κs = (c.before.before.requires, omega arith)
@@ -30,7 +30,7 @@ loop-holds : tie.Need-loop-init invariant-loop decreases-loop
 loop-holds c = let a = c.before.before.before.args in (
   rw c.word-start.ensures (begins a.table.now a.text.now 0 (omega arith)),
   omega arith,
-  ap (λ (n : ℕ). 0 + length (wordsAt a.table.now a.text.now n)) c.word-start.ensures ∙ omega (arith, ap length (words-first a.table.now a.text.now)),
+  ap (λ (n : ℕ). 0 + length (words_at a.table.now a.text.now n)) c.word-start.ensures ∙ omega (arith, ap length (words_first a.table.now a.text.now)),
 )
 
 scan-word-requires : tie.Need-scan-word-requires invariant-loop decreases-loop
@@ -51,12 +51,12 @@ loop-again c = let a = c.before.before.before.before.before.before.before.args i
     let n = next_of c.before.before in (
       rw (stepped c) n.begun,
       omega (arith, loop.invariant.1, stepped c, n.further),
-      omega (arith, loop.invariant.2, ap length n.words, ap (λ (m : ℕ). length (wordsAt a.table.now a.text.now m)) (stepped c)),
+      omega (arith, loop.invariant.2, ap length n.words, ap (λ (m : ℕ). length (words_at a.table.now a.text.now m)) (stepped c)),
     )
 
 returns : tie.Need-returns invariant-loop decreases-loop
 returns c = let a = c.before.before.before.before.before.args in
-    omega (arith, c.before.loop.invariant.2, ap length (words-end a.table.now a.text.now c.before.loop.start c.loop-test.false))
+    omega (arith, c.before.loop.invariant.2, ap length (words_end a.table.now a.text.now c.before.loop.start c.loop-test.false))
 
 pub text-size-spec : {M : Type 1} → statement M
 text-size-spec =

@@ -6,11 +6,11 @@ use borrow.Author.Rules.{rules}
 use lib.ListN.{length}
 use Rattle.base.specs.declared.Answer.{Answer}
 use Rattle.base.specs.Answers.{written}
-use Rattle.base.specs.Texts.{maxWords}
+use Rattle.base.specs.Texts.{max_words}
 use Rattle.index.specs.Arrays.{arrays}
 use Rattle.sheet_calls.specs.Sheets.{pair_of}
-use Rattle.sheet_calls.proofs.Values.{value-most}
-use Rattle.sheet_calls.proofs.Tested.{pair-written}
+use Rattle.sheet_calls.proofs.Values.{value_most}
+use Rattle.sheet_calls.proofs.Tested.{pair_written}
 use Rattle.sheets.proofs.answer_next.Statement.{statement}
 use Rattle.sheets.proofs.answer_next.Tie as tie
 
@@ -19,11 +19,11 @@ abbrev start : tie.After-struct-known → tie.Start
 start c = c.before.before.before.before.before.before.before.before.before.before
 
 -- the value of an answer fits the numbers of a pair
-small : (c : tie.After-struct-known) → c.before.answer.result.value ≤ suc maxWords
+small : (c : tie.After-struct-known) → c.before.answer.result.value ≤ suc max_words
 small c =
     let st = start c in
     rw c.before.answer.ensures
-    (value-most st.args.s st.args.shape (arrays st.args.lengths.now st.args.bytes.now st.args.superblocks.now st.args.blocks.now) st.pre.0.checked _ st.args.words.now st.args.question)
+    (value_most st.args.s st.args.shape (arrays st.args.lengths.now st.args.bytes.now st.args.superblocks.now st.args.blocks.now) st.pre.0.checked _ st.args.words.now st.args.question)
 
 -- its pair lies in the answers, whose bytes can be counted
 pair_inside : (c : tie.After-struct-known) → (2 * (start c).args.i + 1 < length (start c).args.answers.now) × (length (start c).args.answers.now * 4 < 2 ^ 63)
@@ -66,7 +66,7 @@ returns : tie.Need-returns
 returns c =
     let st = start c in
     let z = st.args.answers.now in
-    (refl, pair-written c.before.answer.result z (2 * st.args.i) st.pre.2 ∙ ap (λ (r : Answer). written (pair_of r) (2 * st.args.i) z) c.before.answer.ensures)
+    (refl, pair_written c.before.answer.result z (2 * st.args.i) st.pre.2 ∙ ap (λ (r : Answer). written (pair_of r) (2 * st.args.i) z) c.before.answer.ensures)
 
 pub answer-next-spec : {M : Type 1} → statement M
 answer-next-spec =

@@ -7,14 +7,14 @@ use borrow.Author.Rules.{rules}
 use lib.ListN.{length}
 use Rattle.base.specs.declared.Answer.{Answer}
 use Rattle.base.specs.Answers.{accepted}
-use Rattle.index.specs.Arrays.{Arrays, arrays, textIn}
-use Rattle.index.specs.Entries.{checkAnswer}
+use Rattle.index.specs.Arrays.{Arrays, arrays, text_in}
+use Rattle.index.specs.Entries.{check_answer}
 use Rattle.words.specs.Ready.{Checked}
-use Rattle.words.proofs.Parts.{accepted-checked, checked-most, checked-total}
-use Rattle.documents.specs.Documents.{areStarts}
-use Rattle.documents.proofs.Starts.{starts-are}
-use Rattle.questions.proofs.Checks.{check-in-clear}
-use Rattle.sheet_calls.proofs.Tested.{sheet-checked, sheet-short, sheet-accepted}
+use Rattle.words.proofs.Parts.{accepted_checked, checked_most, checked_total}
+use Rattle.documents.specs.Documents.{are_starts}
+use Rattle.documents.proofs.Starts.{starts_are}
+use Rattle.questions.proofs.Checks.{check_in_clear}
+use Rattle.sheet_calls.proofs.Tested.{sheet_checked, sheet_short, sheet_accepted}
 use Rattle.sheets.proofs.prepare.Statement.{statement}
 use Rattle.sheets.proofs.prepare.Tie as tie
 
@@ -27,11 +27,11 @@ module _ (c : tie.Else1) where
   abbrev start : tie.Start
   start = c.before.before.before.before.before.before.before.before.before
 
-  clear : (checkAnswer start.args.s start.args.shape (four start) ≡ accepted 0) × (areStarts (length (textIn start.args.s (four start))) start.args.documents.now ≡ true)
-  clear = check-in-clear start.args.s start.args.shape (four start) start.args.documents.now (ap (λ (r : Answer). r.refusal) (sym c.before.before.check-in-documents.ensures) ∙ c.if1.false)
+  clear : (check_answer start.args.s start.args.shape (four start) ≡ accepted 0) × (are_starts (length (text_in start.args.s (four start))) start.args.documents.now ≡ true)
+  clear = check_in_clear start.args.s start.args.shape (four start) start.args.documents.now (ap (λ (r : Answer). r.refusal) (sym c.before.before.check-in-documents.ensures) ∙ c.if1.false)
 
   checked : Checked start.args.s start.args.shape (four start)
-  checked = accepted-checked start.args.s start.pre.0 start.args.shape (four start) (ap (λ (r : Answer). r.refusal) clear.0)
+  checked = accepted_checked start.args.s start.pre.0 start.args.shape (four start) (ap (λ (r : Answer). r.refusal) clear.0)
 
 check-in-documents-requires : tie.Need-check-in-documents-requires
 check-in-documents-requires c κs = search rules
@@ -40,7 +40,7 @@ returns : tie.Need-returns
 returns c =
     let st = c.before.before.before.before.before.before.before.before.before in
     let e = c.before.before.check-in-documents.ensures in
-    (e ∙ sym (sheet-checked st.args.s st.args.shape (four st) st.args.documents.now st.args.asked st.args.room (λ z. c.if1.true (ap (λ (r : Answer). r.refusal) e ∙ z))), λ z. absurd (c.if1.true z))
+    (e ∙ sym (sheet_checked st.args.s st.args.shape (four st) st.args.documents.now st.args.asked st.args.room (λ z. c.if1.true (ap (λ (r : Answer). r.refusal) e ∙ z))), λ z. absurd (c.if1.true z))
 
 refused-requires : tie.Need-refused-requires
 refused-requires c κs = search rules
@@ -49,14 +49,14 @@ returns-2 : tie.Need-returns-2
 returns-2 c =
     let at = c.before.before in
     let st = start at in (
-      c.refused.ensures ∙ sym (sheet-short st.args.s st.args.shape (four st) st.args.documents.now st.args.asked st.args.room (clear at).0 (clear at).1 (omega (arith, c.before.if2.true))),
+      c.refused.ensures ∙ sym (sheet_short st.args.s st.args.shape (four st) st.args.documents.now st.args.asked st.args.room (clear at).0 (clear at).1 (omega (arith, c.before.if2.true))),
       λ e. absurd (omega (arith, ap (λ (r : Answer). r.refusal) c.refused.ensures, e)),
     )
 
 node-starts-requires : tie.Need-node-starts-requires
 node-starts-requires c κs =
     let at = c.before.before in
-    (omega (arith, checked-most (checked at)), checked-total (checked at))
+    (omega (arith, checked_most (checked at)), checked_total (checked at))
 
 mul-accepted : tie.Need-overflow-mul-accepted
 mul-accepted c = search rules
@@ -71,8 +71,8 @@ returns-3 : tie.Need-returns-3
 returns-3 c =
     let at = c.before.before.before.before.before.before in
     let st = start at in (
-      c.accepted.ensures ∙ sym (sheet-accepted st.args.s st.args.shape (four st) st.args.documents.now st.args.asked st.args.room (clear at).0 (clear at).1 (omega (arith, c.before.before.before.before.before.if2.false))),
-      λ e. ((starts-are (length (textIn st.args.s (four st))) st.args.documents.now (clear at).1).ascending, c.before.before.before.node-starts.ensures),
+      c.accepted.ensures ∙ sym (sheet_accepted st.args.s st.args.shape (four st) st.args.documents.now st.args.asked st.args.room (clear at).0 (clear at).1 (omega (arith, c.before.before.before.before.before.if2.false))),
+      λ e. ((starts_are (length (text_in st.args.s (four st))) st.args.documents.now (clear at).1).ascending, c.before.before.before.node-starts.ensures),
     )
 
 pub prepare-spec : {M : Type 1} → statement M

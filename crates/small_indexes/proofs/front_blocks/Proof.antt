@@ -3,7 +3,7 @@ use mathlib.Core.Path.{sym}
 use native.Mathlib.Omega.{arith}
 use lib.Seq.{length-take-le}
 use borrow.Author.Rules.{rules}
-use Rattle.small_indexes.proofs.Lent.{lent-least}
+use Rattle.small_indexes.proofs.Lent.{lent_least}
 use Rattle.small_indexes.proofs.front_blocks.Statement.{statement}
 use Rattle.small_indexes.proofs.front_blocks.Tie as tie
 
@@ -14,7 +14,7 @@ slice-aggregate-result : tie.Need-slice-aggregate-result
 slice-aggregate-result c = sym (length-take-le _ _ (omega (arith, c.before.least.ensures)))
 
 returns : tie.Need-returns
-returns c = lent-least _ _ _ c.before.least.ensures
+returns c = lent_least _ _ _ c.before.least.ensures
 
 pub front-blocks-spec : {M : Type 1} → statement M
 front-blocks-spec = tie.close (tie.spec least-requires slice-aggregate-result returns)

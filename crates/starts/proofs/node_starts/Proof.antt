@@ -8,7 +8,7 @@ use borrow.Author.Count.{below_none}
 use borrow.Author.Rules.{rules}
 use lib.ListN.{length, take, get_or, length-set}
 use Rattle.base.specs.Lists.{total}
-use Rattle.base.proofs.Sums.{total-take-suc, total-take-whole}
+use Rattle.base.proofs.Sums.{total_take_suc, total_take_whole}
 use Rattle.base.proofs.Fronts.{set_below}
 use Rattle.starts.proofs.node_starts.Statement.{statement}
 use Rattle.starts.proofs.node_starts.Tie as tie
@@ -25,7 +25,7 @@ decreases-loop lengths starts₀ start₀ node₀ starts start node = length len
 
 -- the start of the next node
 next : (lengths : List ℕ) (k : ℕ) → k < length lengths → total (take (k + 1) lengths) ≡ total (take k lengths) + get_or lengths k 0
-next lengths k h = ap (λ (n : ℕ). total (take n lengths)) (add-one k) ∙ total-take-suc lengths k h
+next lengths k h = ap (λ (n : ℕ). total (take n lengths)) (add-one k) ∙ total_take_suc lengths k h
 
 loop-holds : tie.Need-loop-init invariant-loop decreases-loop
 loop-holds c = (omega arith, search rules, search rules, below_none _)
@@ -46,7 +46,7 @@ add_start : tie.Need-overflow-add-start invariant-loop decreases-loop
 add_start c =
     let lengths = c.before.before.before.args.lengths.now in
     let k = c.before.before.loop.node in
-    omega (arith, next lengths k (omega arith), total-take-whole lengths (k + 1), c.before.before.before.requires.1)
+    omega (arith, next lengths k (omega arith), total_take_whole lengths (k + 1), c.before.before.before.requires.1)
 
 add-node : tie.Need-overflow-add-node invariant-loop decreases-loop
 add-node c = search rules

@@ -3,10 +3,10 @@ use mathlib.Core.Path.{sym, ap, ◌∙◌}
 use native.Mathlib.Omega.{arith}
 use borrow.Author.Rules.{rules}
 use lib.ListN.{length}
-use Rattle.base.proofs.Lists.{below-weaken}
-use Rattle.dense.specs.Code.{maxVocabulary}
-use Rattle.words.proofs.Parts.{checked-most, checked-total}
-use Rattle.matching.proofs.FirstBytes.{first-bytes-length, first-bytes-part, searching}
+use Rattle.base.proofs.Lists.{below_weaken}
+use Rattle.dense.specs.Code.{max_vocabulary}
+use Rattle.words.proofs.Parts.{checked_most, checked_total}
+use Rattle.matching.proofs.FirstBytes.{first_bytes_length, first_bytes_part, searching}
 use Rattle.summaries.proofs.write_summary.Statement.{statement}
 use Rattle.summaries.proofs.write_summary.Tie as tie
 
@@ -16,7 +16,7 @@ slice-aggregate-node-starts c = search rules
 node-starts-requires : tie.Need-node-starts-requires
 node-starts-requires c κs =
     let st = c.before.before.before.before.before.before.before.before in
-    (omega (arith, checked-most st.requires.0), checked-total st.requires.0)
+    (omega (arith, checked_most st.requires.0), checked_total st.requires.0)
 
 slice-aggregate-first-bytes : tie.Need-slice-aggregate-first-bytes
 slice-aggregate-first-bytes c = search rules
@@ -24,7 +24,7 @@ slice-aggregate-first-bytes c = search rules
 first-bytes-requires : tie.Need-first-bytes-requires
 first-bytes-requires c κs =
     let st = c.before.before.before.before.before.before.before.before.before.before.before in
-    (st.requires.0.closing, below-weaken st.args.shape.vocabulary (maxVocabulary st.args.s) st.args.words.now st.requires.0.limits.mostWords st.requires.3, omega (arith, st.requires.2))
+    (st.requires.0.closing, below_weaken st.args.shape.vocabulary (max_vocabulary st.args.s) st.args.words.now st.requires.0.limits.most_words st.requires.3, omega (arith, st.requires.2))
 
 slice-aggregate-count-by-document : tie.Need-slice-aggregate-count-by-document
 slice-aggregate-count-by-document c = search rules
@@ -35,7 +35,7 @@ array-share-prefix-table c = search rules
 slice-aggregate-count-by-document-2 : tie.Need-slice-aggregate-count-by-document-2
 slice-aggregate-count-by-document-2 c =
     let st = c.before.before.before.before.before.before.before.before.before.before.before.before.before.before.before in
-    sym (ap length (first-bytes-part st.args.s st.args.words.now _ _ c.before.before.before.first-bytes.ensures) ∙ first-bytes-length st.args.s st.args.words.now)
+    sym (ap length (first_bytes_part st.args.s st.args.words.now _ _ c.before.before.before.first-bytes.ensures) ∙ first_bytes_length st.args.s st.args.words.now)
 
 count-by-document-requires : tie.Need-count-by-document-requires
 count-by-document-requires c κs =

@@ -7,8 +7,8 @@ use borrow.Author.Rules.{rules}
 use lib.ListN.{get_or, drop, drop_of_length-le}
 use lib.Seq.{take_all}
 use Rattle.tallies.specs.Tallies.{sums, counters}
-use Rattle.tallies.proofs.Sums.{below_at, sums-length, sums_at, counters-at, counter-fits}
-use Rattle.tallies.proofs.Tables.{Put, put-start, put-left, put_next, put-end}
+use Rattle.tallies.proofs.Sums.{below_at, sums_length, sums_at, counters_at, counter_fits}
+use Rattle.tallies.proofs.Tables.{Put, put_start, put_left, put_next, put_end}
 use Rattle.tallies.proofs.add.Statement.{statement}
 use Rattle.tallies.proofs.add.Tie as tie
 
@@ -22,7 +22,7 @@ decreases-loop totals₀ lanes x₀ totals x = 256 - x
 small : (c : tie.In-loop invariant-loop decreases-loop) → let l = c.before.before.args.lanes.now in let x = c.before.loop.x in get_or l x 0 + get_or l (256 + x) 0 < 65536
 small c =
     let s = c.before.before in
-    counter-fits s.args.lanes.now s.requires.1 c.before.loop.x c.loop-test.true
+    counter_fits s.args.lanes.now s.requires.1 c.before.loop.x c.loop-test.true
 
 -- total x is as it was, and with the two lanes of its counter it is sum x
 total : (c : tie.In-loop invariant-loop decreases-loop) → let a = c.before.before.args in let x = c.before.loop.x in get_or c.before.loop.totals x 0 + (get_or a.lanes.now x 0 + get_or a.lanes.now (256 + x) 0) ≡ get_or (sums a.totals.now (counters a.lanes.now)) x 0
@@ -32,11 +32,11 @@ total c =
     let below = c.loop-test.true in
     let z : 0 + l.x ≡ l.x = omega arith in
     let e : get_or l.totals l.x 0 ≡ get_or a.totals.now l.x 0 =
-    rw z at (put-left a.totals.now 0 (sums a.totals.now (counters a.lanes.now)) (omega arith) (sums-length a.totals.now (counters a.lanes.now)) l.invariant below) in
-    omega (arith, sums_at a.totals.now (counters a.lanes.now) l.x below, counters-at a.lanes.now l.x below)
+    rw z at (put_left a.totals.now 0 (sums a.totals.now (counters a.lanes.now)) (omega arith) (sums_length a.totals.now (counters a.lanes.now)) l.invariant below) in
+    omega (arith, sums_at a.totals.now (counters a.lanes.now) l.x below, counters_at a.lanes.now l.x below)
 
 loop-holds : tie.Need-loop-init invariant-loop decreases-loop
-loop-holds c = put-start c.args.totals.now 0 (sums c.args.totals.now (counters c.args.lanes.now))
+loop-holds c = put_start c.args.totals.now 0 (sums c.args.totals.now (counters c.args.lanes.now))
 
 mul-totals : tie.Need-overflow-mul-totals invariant-loop decreases-loop
 mul-totals c = search rules
@@ -70,7 +70,7 @@ add-totals-3 c =
     let i = c.before.before.before in
     let s = i.before.before in
     let sum = sums s.args.totals.now (counters s.args.lanes.now) in
-    omega (arith, total i, below_at 4294967296 sum s.requires.2 (sums-length s.args.totals.now (counters s.args.lanes.now)) i.before.loop.x i.loop-test.true)
+    omega (arith, total i, below_at 4294967296 sum s.requires.2 (sums_length s.args.totals.now (counters s.args.lanes.now)) i.before.loop.x i.loop-test.true)
 
 element-write-totals : tie.Need-element-write-totals invariant-loop decreases-loop
 element-write-totals c = search rules
@@ -87,15 +87,15 @@ loop-again c =
     let a = i.before.before.args in
     let l = i.before.loop in
     let z : 0 + l.x ≡ l.x = omega arith in
-    rw z at (put_next a.totals.now 0 (sums a.totals.now (counters a.lanes.now)) (omega arith) (sums-length a.totals.now (counters a.lanes.now)) l.invariant
+    rw z at (put_next a.totals.now 0 (sums a.totals.now (counters a.lanes.now)) (omega arith) (sums_length a.totals.now (counters a.lanes.now)) l.invariant
     (get_or l.totals l.x 0 + (get_or a.lanes.now l.x 0 + get_or a.lanes.now (256 + l.x) 0)) (total i) i.loop-test.true)
 
 returns : tie.Need-returns invariant-loop decreases-loop
 returns c =
     let a = c.before.before.args in
     let sum = sums a.totals.now (counters a.lanes.now) in
-    put-end a.totals.now 0 sum c.before.loop.invariant (omega arith)
-    ∙ ap (λ (t : List ℕ). t ++ drop 256 a.totals.now) (take_all 256 sum (omega (arith, sums-length a.totals.now (counters a.lanes.now))))
+    put_end a.totals.now 0 sum c.before.loop.invariant (omega arith)
+    ∙ ap (λ (t : List ℕ). t ++ drop 256 a.totals.now) (take_all 256 sum (omega (arith, sums_length a.totals.now (counters a.lanes.now))))
     ∙ ap (λ (t : List ℕ). sum ++ t) (drop_of_length-le a.totals.now {i = 256} (omega arith)) ∙ append-nil sum
 
 pub add_spec : {M : Type 1} → statement M

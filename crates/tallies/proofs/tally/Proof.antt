@@ -9,11 +9,11 @@ use borrow.Author.Rules.{rules}
 use lib.ListN.{length, get_or, take, length-set}
 use lib.Seq.{take-suc, take_all}
 use Rattle.base.proofs.Tests.{below_or_not}
-use Rattle.base.proofs.Counts.{count-take-less}
+use Rattle.base.proofs.Counts.{count_take_less}
 use Rattle.directory.specs.Counters.{row}
 use Rattle.directory.proofs.Rows.{row_at}
 use Rattle.tallies.specs.Tallies.{sums, counters}
-use Rattle.tallies.proofs.Sums.{below_at, sums-length, sums_at, sums-row, sums_none, counters-length, counters-up, lane-most}
+use Rattle.tallies.proofs.Sums.{below_at, sums_length, sums_at, sums_row, sums_none, counters_length, counters_up, lane_most}
 use Rattle.tallies.proofs.tally.Statement.{statement}
 use Rattle.tallies.proofs.tally.Tie as tie
 
@@ -31,7 +31,7 @@ lane : (i x : ℕ) → (i % 2 * 256 + x ≡ x) ⊎ (i % 2 * 256 + x ≡ 256 + x)
 lane i x = ⊎_elim (λ (h : i % 2 < 1). inl (omega arith)) (λ (h : 1 ≤ i % 2). inr (omega arith)) (below_or_not (i % 2) 1)
 
 loop-holds : tie.Need-loop-init invariant-loop decreases-loop
-loop-holds c = (omega arith, c.requires.0, sums_none (counters c.args.lanes.now) (counters-length c.args.lanes.now))
+loop-holds c = (omega arith, c.requires.0, sums_none (counters c.args.lanes.now) (counters_length c.args.lanes.now))
 
 shared-slice-read-x : tie.Need-shared-slice-read-x invariant-loop decreases-loop
 shared-slice-read-x c = search rules
@@ -61,14 +61,14 @@ add-lanes c =
     let b = byte c.before in
     omega (
       arith,
-      lane-most l.lanes (l.i % 2 * 256 + x) x b (lane l.i x),
+      lane_most l.lanes (l.i % 2 * 256 + x) x b (lane l.i x),
       ap (λ (t : List ℕ). get_or t x 0) l.invariant.2,
       sums_at cs (row (take l.i part)) x b,
       row_at (take l.i part) x b,
-      below_at 65536 (sums cs (row part)) s.requires.1 (sums-length cs (row part)) x b,
+      below_at 65536 (sums cs (row part)) s.requires.1 (sums_length cs (row part)) x b,
       sums_at cs (row part) x b,
       row_at part x b,
-      count-take-less x part l.i c.before.before.loop-test.true refl,
+      count_take_less x part l.i c.before.before.loop-test.true refl,
     )
 
 element-write-lanes : tie.Need-element-write-lanes invariant-loop decreases-loop
@@ -88,7 +88,7 @@ loop-again c =
     let k = l.i % 2 * 256 + x in (
       omega arith,
       length-set l.lanes k (get_or l.lanes k 0 + 1) ∙ l.invariant.1,
-      counters-up l.lanes k x l.invariant.1 (byte c.before) (lane l.i x) ∙ ap (λ (t : List ℕ). sums t (row (x ∷ []))) l.invariant.2 ∙ sums-row (counters a.lanes.now) (take l.i a.part.now) (x ∷ [])
+      counters_up l.lanes k x l.invariant.1 (byte c.before) (lane l.i x) ∙ ap (λ (t : List ℕ). sums t (row (x ∷ []))) l.invariant.2 ∙ sums_row (counters a.lanes.now) (take l.i a.part.now) (x ∷ [])
           ∙ ap (λ (t : List ℕ). sums (counters a.lanes.now) (row t)) (sym (ap (λ (n : ℕ). take n a.part.now) (add-one l.i) ∙ take-suc a.part.now l.i 0 c.before.before.loop-test.true)),
     )
 

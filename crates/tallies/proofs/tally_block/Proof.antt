@@ -7,13 +7,13 @@ use borrow.Author.Rules.{rules}
 use lib.ListN.{take, drop}
 use Rattle.directory.specs.Counters.{row}
 use Rattle.base.proofs.Parts.{part_cut}
-use Rattle.tallies.specs.Tallies.{sums, counters, blockBytes}
+use Rattle.tallies.specs.Tallies.{sums, counters, block_bytes}
 use Rattle.tallies.proofs.tally_block.Statement.{statement}
 use Rattle.tallies.proofs.tally_block.Tie as tie
 
 -- the part that is tallied is the block
 part : (c : tie.After-tally-arg) → let a = c.before.before.before.args in
-    take (c.before.least.result - a.row * a.block) (drop (a.row * a.block) a.bytes.now) ≡ blockBytes a.block a.bytes.now a.row
+    take (c.before.least.result - a.row * a.block) (drop (a.row * a.block) a.bytes.now) ≡ block_bytes a.block a.bytes.now a.row
 part c =
     let s = c.before.before.before in
     part_cut s.args.bytes.now (s.args.row * s.args.block) s.args.block c.before.least.result s.requires.0.0 (omega (arith, c.before.least.ensures))

@@ -1,7 +1,7 @@
 -- `tree::child` meets its contract: the product is that of two small numbers. Assumes nothing.
 use native.Mathlib.Omega.{arith}
 use borrow.Author.Rules.{rules}
-use Rattle.tree.proofs.Numbers.{children-most}
+use Rattle.tree.proofs.Numbers.{children_most}
 use Rattle.tree.proofs.child.Statement.{statement}
 use Rattle.tree.proofs.child.Tie as tie
 
@@ -9,13 +9,13 @@ sub-result : tie.Need-overflow-sub-result
 sub-result c = search rules
 
 mul-result : tie.Need-overflow-mul-result
-mul-result c = omega (arith, children-most c.args.s c.requires.0 c.args.node c.requires.1)
+mul-result c = omega (arith, children_most c.args.s c.requires.0 c.args.node c.requires.1)
 
 add-result : tie.Need-overflow-add-result
-add-result c = omega (arith, children-most c.args.s c.requires.0 c.args.node c.requires.1)
+add-result c = omega (arith, children_most c.args.s c.requires.0 c.args.node c.requires.1)
 
 add-result-2 : tie.Need-overflow-add-result-2
-add-result-2 c = omega (arith, children-most c.args.s c.requires.0 c.args.node c.requires.1)
+add-result-2 c = omega (arith, children_most c.args.s c.requires.0 c.args.node c.requires.1)
 
 returns : tie.Need-returns
 returns c = search rules

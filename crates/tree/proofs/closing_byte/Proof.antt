@@ -1,7 +1,7 @@
 -- `tree::closing_byte` meets its contract: what is cast is a byte. Assumes nothing.
 use native.Mathlib.Omega.{arith}
 use borrow.Author.Rules.{rules}
-use Rattle.dense.proofs.Codewords.{closing-byte}
+use Rattle.dense.proofs.Codewords.{closing_byte_lem}
 use Rattle.tree.proofs.closing_byte.Statement.{statement}
 use Rattle.tree.proofs.closing_byte.Tie as tie
 
@@ -12,10 +12,10 @@ rem-result : tie.Need-nonzero-rem-result
 rem-result c = search rules
 
 add-result : tie.Need-overflow-add-result
-add-result c = omega (arith, closing-byte c.args.s c.requires c.args.rank)
+add-result c = omega (arith, closing_byte_lem c.args.s c.requires c.args.rank)
 
 cast-result : tie.Need-overflow-cast-result
-cast-result c = omega (arith, closing-byte c.args.s c.requires c.args.rank)
+cast-result c = omega (arith, closing_byte_lem c.args.s c.requires c.args.rank)
 
 returns : tie.Need-returns
 returns c = search rules

@@ -1,7 +1,7 @@
 -- `tree::digit` meets its contract: what is cast is a byte. Assumes nothing.
 use native.Mathlib.Omega.{arith}
 use borrow.Author.Rules.{rules}
-use Rattle.tree.proofs.Numbers.{digit-below}
+use Rattle.tree.proofs.Numbers.{digit_below}
 use Rattle.tree.proofs.digit.Statement.{statement}
 use Rattle.tree.proofs.digit.Tie as tie
 
@@ -15,7 +15,7 @@ rem-result : tie.Need-nonzero-rem-result
 rem-result c = search rules
 
 cast-result : tie.Need-overflow-cast-result
-cast-result c = omega (arith, digit-below c.args.s c.requires.0 c.args.node)
+cast-result c = omega (arith, digit_below c.args.s c.requires.0 c.args.node)
 
 returns : tie.Need-returns
 returns c = search rules

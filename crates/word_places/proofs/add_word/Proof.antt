@@ -4,7 +4,7 @@ use mathlib.Core.Path.{◌≡◌, sym, ap, ◌∙◌}
 use native.Mathlib.Numerals.{add-one}
 use borrow.Author.Rules.{rules}
 use lib.ListN.{set}
-use Rattle.base.proofs.Tests.{cond_below, cond-not-below}
+use Rattle.base.proofs.Tests.{cond_below, cond_not_below}
 use Rattle.word_places.proofs.add_word.Statement.{statement}
 use Rattle.word_places.proofs.add_word.Tie as tie
 
@@ -49,7 +49,7 @@ returns-2 : tie.Need-returns-2
 returns-2 c = let a = c.before.before.args in
     let l = c.before.if1.false in
     let one : a.place + 1 ≡ suc a.place = add-one a.place in
-    (sym (cond-not-below (a.found - 1) a.place 0 a.found l), ap (set a.heads.now a.bucket) one ∙ sym (cond-not-below _ _ 0 a.found l), sym (cond-not-below _ _ 0 a.found l))
+    (sym (cond_not_below (a.found - 1) a.place 0 a.found l), ap (set a.heads.now a.bucket) one ∙ sym (cond_not_below _ _ 0 a.found l), sym (cond_not_below _ _ 0 a.found l))
 
 pub add-word-spec : {M : Type 1} → statement M
 add-word-spec =

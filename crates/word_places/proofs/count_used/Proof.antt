@@ -7,13 +7,13 @@ use borrow.Author.Rules.{rules}
 use borrow.Author.Tests.{lt-ltb, le-ltb}
 use lib.Dec.{ltb}
 use lib.ListN.{length, take}
-use Rattle.base.specs.Lists.{filterBy}
-use Rattle.word_places.proofs.Used.{passed-yes, passed-no}
+use Rattle.base.specs.Lists.{filter_by}
+use Rattle.word_places.proofs.Used.{passed_yes, passed_no}
 use Rattle.word_places.proofs.count_used.Statement.{statement}
 use Rattle.word_places.proofs.count_used.Tie as tie
 
 abbrev invariant-loop : tie.invariant-loop
-invariant-loop counts size used₀ place₀ used place = (place ≤ size) × (used ≤ place) × (used ≡ length (filterBy (ltb 0) (take place counts)))
+invariant-loop counts size used₀ place₀ used place = (place ≤ size) × (used ≤ place) × (used ≡ length (filter_by (ltb 0) (take place counts)))
 
 abbrev decreases-loop : tie.decreases-loop
 decreases-loop counts size used₀ place₀ used place = size - place
@@ -41,8 +41,8 @@ loop-again c = let loop = c.before.before.before.loop in
     let a = c.before.before.before.before.args in
     let h : loop.place < length a.counts.now = omega (arith, c.before.before.loop-test.true, c.before.before.before.before.requires) in
     ⊎_elim
-    (λ w. (omega arith, omega (arith, w), w.1 ∙ ap (λ (n : ℕ). n + 1) loop.invariant.2 ∙ sym (passed-yes (ltb 0) a.counts.now loop.place h (lt-ltb 0 _ w.0.taken))))
-    (λ w. (omega arith, omega (arith, w), w.1 ∙ loop.invariant.2 ∙ sym (passed-no (ltb 0) a.counts.now loop.place h (le-ltb 0 _ w.0.left))))
+    (λ w. (omega arith, omega (arith, w), w.1 ∙ ap (λ (n : ℕ). n + 1) loop.invariant.2 ∙ sym (passed_yes (ltb 0) a.counts.now loop.place h (lt-ltb 0 _ w.0.taken))))
+    (λ w. (omega arith, omega (arith, w), w.1 ∙ loop.invariant.2 ∙ sym (passed_no (ltb 0) a.counts.now loop.place h (le-ltb 0 _ w.0.left))))
     c.if1.branch
 
 returns : tie.Need-returns invariant-loop decreases-loop

@@ -6,9 +6,9 @@ use borrow.Author.Rules.{rules}
 use Rattle.base.specs.Lists.{same}
 use Rattle.lexicon.specs.Reading.{spellings}
 use Rattle.scanning.specs.Scans.{buckets}
-use Rattle.hashing.proofs.HashTables.{bucket-below}
+use Rattle.hashing.proofs.HashTables.{bucket_below}
 use Rattle.word_places.specs.Places.{word_of}
-use Rattle.word_places.proofs.Chains.{Along, along-first, along-next, along-less, along-hit, along-end}
+use Rattle.word_places.proofs.Chains.{Along, along_first, along_next, along_less, along_hit, along_end}
 use Rattle.word_places.proofs.find_earlier.Statement.{statement}
 use Rattle.word_places.proofs.find_earlier.Tie as tie
 
@@ -20,7 +20,7 @@ decreases-loop table text heads links starts place bucket start other₀ other =
 
 -- there is such a bucket
 bucket-inside : (c : tie.Start invariant-loop decreases-loop) → c.args.bucket < buckets
-bucket-inside c = omega (arith, c.requires.5, bucket-below (word_of (spellings c.args.table.now c.args.text.now) c.args.place))
+bucket-inside c = omega (arith, c.requires.5, bucket_below (word_of (spellings c.args.table.now c.args.text.now) c.args.place))
 
 -- the two words are compared
 compared : (c : tie.After-same-word invariant-loop decreases-loop) → same (word_of (spellings c.before.before.before.before.before.before.before.before.before.before.before.args.table.now c.before.before.before.before.before.before.before.before.before.before.before.args.text.now) c.before.before.before.before.before.before.before.before.before.before.before.args.place) (word_of (spellings c.before.before.before.before.before.before.before.before.before.before.before.args.table.now c.before.before.before.before.before.before.before.before.before.before.before.args.text.now) (c.before.before.before.loop.other - 1)) ≡ c.same_word.result
@@ -44,7 +44,7 @@ cast-other : tie.Need-overflow-cast-other invariant-loop decreases-loop
 cast-other c = omega (arith, c.shared-slice-known7.given c.before.before.before.before.before.before.before.args.bucket)
 
 loop-holds : tie.Need-loop-init invariant-loop decreases-loop
-loop-holds c = along-first (spellings c.before.before.before.before.before.before.before.args.table.now c.before.before.before.before.before.before.before.args.text.now) c.before.before.before.before.before.before.before.args.place c.before.before.before.before.before.before.before.args.heads.now c.before.before.before.before.before.before.before.args.links.now c.before.before.before.before.before.before.before.requires.1 c.before.before.before.before.before.before.before.requires.3 c.before.before.before.before.before.before.before.args.bucket c.before.before.before.before.before.before.before.requires.5
+loop-holds c = along_first (spellings c.before.before.before.before.before.before.before.args.table.now c.before.before.before.before.before.before.before.args.text.now) c.before.before.before.before.before.before.before.args.place c.before.before.before.before.before.before.before.args.heads.now c.before.before.before.before.before.before.before.args.links.now c.before.before.before.before.before.before.before.requires.1 c.before.before.before.before.before.before.before.requires.3 c.before.before.before.before.before.before.before.args.bucket c.before.before.before.before.before.before.before.requires.5
 
 sub-begin : tie.Need-overflow-sub-begin invariant-loop decreases-loop
 sub-begin c = search rules
@@ -61,7 +61,7 @@ same-word-requires c κs = (c.before.before.before.before.before.before.before.b
 returns : tie.Need-returns invariant-loop decreases-loop
 returns c = let start = c.before.before.before.before.before.before.before.before.before.before.before.before in
     let a = start.args in
-    along-hit (spellings a.table.now a.text.now) a.place a.heads.now a.links.now start.requires.1 start.requires.3 c.before.before.before.before.loop.other c.before.before.before.loop-test.true c.before.before.before.before.loop.invariant (compared c.before ∙ c.if1.true)
+    along_hit (spellings a.table.now a.text.now) a.place a.heads.now a.links.now start.requires.1 start.requires.3 c.before.before.before.before.loop.other c.before.before.before.loop-test.true c.before.before.before.before.loop.invariant (compared c.before ∙ c.if1.true)
 
 sub-other : tie.Need-overflow-sub-other invariant-loop decreases-loop
 sub-other c = search rules
@@ -78,17 +78,17 @@ cast-other-2 c = omega (arith, c.shared-slice-known9.given (c.before.before.befo
 loop-less : tie.Need-loop-smaller invariant-loop decreases-loop
 loop-less c = let start = c.before.before.before.before.before.before.before.before.before.before.before.before.before in
     let a = start.args in
-    along-less (spellings a.table.now a.text.now) a.place a.heads.now a.links.now start.requires.1 start.requires.3 c.before.before.before.before.before.loop.other c.before.before.before.before.loop-test.true c.before.before.before.before.before.loop.invariant
+    along_less (spellings a.table.now a.text.now) a.place a.heads.now a.links.now start.requires.1 start.requires.3 c.before.before.before.before.before.loop.other c.before.before.before.before.loop-test.true c.before.before.before.before.before.loop.invariant
 
 loop-again : tie.Need-loop-preserved invariant-loop decreases-loop
 loop-again c = let start = c.before.before.before.before.before.before.before.before.before.before.before.before.before in
     let a = start.args in
-    along-next (spellings a.table.now a.text.now) a.place a.heads.now a.links.now start.requires.1 start.requires.3 c.before.before.before.before.before.loop.other c.before.before.before.before.loop-test.true c.before.before.before.before.before.loop.invariant (compared c.before.before ∙ c.before.if1.false)
+    along_next (spellings a.table.now a.text.now) a.place a.heads.now a.links.now start.requires.1 start.requires.3 c.before.before.before.before.before.loop.other c.before.before.before.before.loop-test.true c.before.before.before.before.before.loop.invariant (compared c.before.before ∙ c.before.if1.false)
 
 returns-2 : tie.Need-returns-2 invariant-loop decreases-loop
 returns-2 c = let start = c.before.before.before.before.before.before.before.before.before in
     let a = start.args in
-    along-end (spellings a.table.now a.text.now) a.place a.heads.now a.links.now start.requires.1 start.requires.3 c.before.loop.other c.loop-test.false c.before.loop.invariant
+    along_end (spellings a.table.now a.text.now) a.place a.heads.now a.links.now start.requires.1 start.requires.3 c.before.loop.other c.loop-test.false c.before.loop.invariant
 
 pub find-earlier-spec : {M : Type 1} → statement M
 find-earlier-spec =

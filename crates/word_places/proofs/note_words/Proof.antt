@@ -8,23 +8,23 @@ use mathlib.Core.Bool.{cond}
 use lib.Dec.{ltb}
 use lib.ListN.{length, get_or, take, drop, length-drop, length-set}
 use Rattle.base.specs.Answers.{front}
-use Rattle.base.proofs.Fronts.{front-none, front-next}
-use Rattle.lexicon.proofs.Calls.{spellings-long}
-use Rattle.lexicon.specs.Reading.{textWords, spellings}
-use Rattle.scanning.proofs.Scans.{begins, Next, next, words-first, left-next}
-use Rattle.scanning.specs.Scans.{wordsAt, run_at, startFrom, WordBegins, bucketOf}
-use Rattle.hashing.proofs.HashTables.{bucket-below}
-use Rattle.word_places.specs.Places.{word_of, firstAppearances, DistinctChained, Begun}
-use Rattle.word_places.proofs.Firsts.{spelled-next, appearances-long, appearance-at}
-use Rattle.word_places.proofs.Chains.{first_found, rank_most, chained-none, chained_more, begun-none, begun_more}
-use Rattle.word_places.proofs.Noted.{text-noted}
+use Rattle.base.proofs.Fronts.{front_none, front_next}
+use Rattle.lexicon.proofs.Calls.{spellings_long}
+use Rattle.lexicon.specs.Reading.{text_words, spellings}
+use Rattle.scanning.proofs.Scans.{begins, Next, next, words_first, left_next}
+use Rattle.scanning.specs.Scans.{words_at, run_at, start_from, WordBegins, bucket_of}
+use Rattle.hashing.proofs.HashTables.{bucket_below}
+use Rattle.word_places.specs.Places.{word_of, first_appearances, DistinctChained, Begun}
+use Rattle.word_places.proofs.Firsts.{spelled_next, appearances_long, appearance_at}
+use Rattle.word_places.proofs.Chains.{first_found, rank_most, chained_none, chained_more, begun_none, begun_more}
+use Rattle.word_places.proofs.Noted.{text_noted}
 use Rattle.word_places.proofs.note_words.Statement.{statement}
 use Rattle.word_places.proofs.note_words.Tie as tie
 
 abbrev invariant-loop : tie.invariant-loop
 invariant-loop table text heads₀ links₀ starts₀ firsts₀ at₀ place₀ heads links starts firsts at place =
-    (place ≤ length (spellings table text)) × WordBegins table text at × (wordsAt table text at ≡ drop place (textWords table text)) × Begun table text place starts
-    × DistinctChained (spellings table text) place heads links × (firsts ≡ front (take place (firstAppearances (spellings table text))) firsts₀)
+    (place ≤ length (spellings table text)) × WordBegins table text at × (words_at table text at ≡ drop place (text_words table text)) × Begun table text place starts
+    × DistinctChained (spellings table text) place heads links × (firsts ≡ front (take place (first_appearances (spellings table text))) firsts₀)
     × (length links ≡ length links₀) × (length starts ≡ length starts₀) × (length firsts ≡ length firsts₀)
 
 abbrev decreases-loop : tie.decreases-loop
@@ -40,21 +40,21 @@ below c =
       arith,
       ap length c.before.loop.invariant.2,
       ap length (next_of c).words,
-      length-drop c.before.loop.place (textWords c.before.before.before.before.before.before.before.before.before.args.table.now c.before.before.before.before.before.before.before.before.before.args.text.now),
-      spellings-long c.before.before.before.before.before.before.before.before.before.args.table.now c.before.before.before.before.before.before.before.before.before.args.text.now,
+      length-drop c.before.loop.place (text_words c.before.before.before.before.before.before.before.before.before.args.table.now c.before.before.before.before.before.before.before.before.before.args.text.now),
+      spellings_long c.before.before.before.before.before.before.before.before.before.args.table.now c.before.before.before.before.before.before.before.before.before.args.text.now,
     )
 
 -- it is the word at the position
 spelled : (c : tie.In-loop invariant-loop decreases-loop) → run_at c.before.before.before.before.before.before.before.before.before.args.table.now c.before.before.before.before.before.before.before.before.before.args.text.now c.before.loop.at ≡ word_of (spellings c.before.before.before.before.before.before.before.before.before.args.table.now c.before.before.before.before.before.before.before.before.before.args.text.now) c.before.loop.place
-spelled c = spelled-next c.before.before.before.before.before.before.before.before.before.args.table.now c.before.before.before.before.before.before.before.before.before.args.text.now c.before.loop.at c.before.loop.place _ c.before.loop.invariant.2 (next_of c).words
+spelled c = spelled_next c.before.before.before.before.before.before.before.before.before.args.table.now c.before.before.before.before.before.before.before.before.before.args.text.now c.before.loop.at c.before.loop.place _ c.before.loop.invariant.2 (next_of c).words
 
 -- the place that is noted for it is where it appears first
-first_of : (c : tie.After-add-word invariant-loop decreases-loop) → c.add-word.result ≡ get_or (firstAppearances (spellings c.before.before.before.before.before.before.before.before.before.before.before.before.before.before.before.before.before.args.table.now c.before.before.before.before.before.before.before.before.before.before.before.before.before.before.before.before.before.args.text.now)) c.before.before.before.before.before.before.before.before.before.loop.place 0
+first_of : (c : tie.After-add-word invariant-loop decreases-loop) → c.add-word.result ≡ get_or (first_appearances (spellings c.before.before.before.before.before.before.before.before.before.before.before.before.before.before.before.before.before.args.table.now c.before.before.before.before.before.before.before.before.before.before.before.before.before.before.before.before.before.args.text.now)) c.before.before.before.before.before.before.before.before.before.loop.place 0
 first_of c =
     let W = spellings c.before.before.before.before.before.before.before.before.before.before.before.before.before.before.before.before.before.args.table.now c.before.before.before.before.before.before.before.before.before.before.before.before.before.before.before.before.before.args.text.now in
     let h = below c.before.before.before.before.before.before.before.before in
     c.add-word.ensures.0 ∙ ap (λ (found : ℕ). cond (ltb 0 found) (found - 1) c.before.before.before.before.before.before.before.before.before.loop.place) c.before.before.before.find-earlier.ensures
-    ∙ first_found W c.before.before.before.before.before.before.before.before.before.loop.place h ∙ sym (appearance-at W c.before.before.before.before.before.before.before.before.before.loop.place h)
+    ∙ first_found W c.before.before.before.before.before.before.before.before.before.loop.place h ∙ sym (appearance_at W c.before.before.before.before.before.before.before.before.before.loop.place h)
 
 -- there is room to note it
 record PlaceLeft (p links starts firsts : ℕ) : Type 0 where
@@ -84,10 +84,10 @@ loop-holds c = let start = c.before.before.before.before.before.before.before in
     let W = spellings a.table.now a.text.now in (
       omega arith,
       rw c.word-start.ensures (begins a.table.now a.text.now 0 (omega arith)),
-      ap (wordsAt a.table.now a.text.now) c.word-start.ensures ∙ sym (words-first a.table.now a.text.now),
-      begun-none a.table.now a.text.now a.starts.now,
-      chained-none W a.heads.now a.links.now start.requires.1 start.requires.2,
-      sym (front-none a.firsts.now),
+      ap (words_at a.table.now a.text.now) c.word-start.ensures ∙ sym (words_first a.table.now a.text.now),
+      begun_none a.table.now a.text.now a.starts.now,
+      chained_none W a.heads.now a.links.now start.requires.1 start.requires.2,
+      sym (front_none a.firsts.now),
       refl,
       refl,
       refl,
@@ -112,7 +112,7 @@ find-earlier-requires c κs = let start = c.before.before.before.before.before.b
       begun_more a.table.now a.text.now loop.starts loop.place loop.at loop.invariant.3 r.started loop.invariant.1.inside (spelled c.before.before.before.before),
       loop.invariant.4,
       omega (arith, r.linked),
-      c.before.before.before.scan-word.ensures.1 ∙ ap bucketOf (spelled c.before.before.before.before),
+      c.before.before.before.scan-word.ensures.1 ∙ ap bucket_of (spelled c.before.before.before.before),
     )
 
 add-word-requires : tie.Need-add-word-requires invariant-loop decreases-loop
@@ -120,7 +120,7 @@ add-word-requires c κs = let start = c.before.before.before.before.before.befor
     let a = start.args in
     let loop = c.before.before.before.before.before.before.before.before.loop in
     let r = room c.before.before.before.before.before.before.before in (
-      omega (arith, c.before.before.before.before.before.before.scan-word.ensures.1, bucket-below (run_at a.table.now a.text.now loop.at), loop.invariant.4.long),
+      omega (arith, c.before.before.before.before.before.before.scan-word.ensures.1, bucket_below (run_at a.table.now a.text.now loop.at), loop.invariant.4.long),
       r.linked,
       omega (arith, r.few),
     )
@@ -128,7 +128,7 @@ add-word-requires c κs = let start = c.before.before.before.before.before.befor
 cast-firsts : tie.Need-overflow-cast-firsts invariant-loop decreases-loop
 cast-firsts c = let h = below c.before.before.before.before.before.before.before.before.before.before.before.before in
     let W = spellings c.before.before.before.before.before.before.before.before.before.before.before.before.before.before.before.before.before.before.before.before.before.args.table.now c.before.before.before.before.before.before.before.before.before.before.before.before.before.before.before.before.before.before.before.before.before.args.text.now in
-    omega (arith, first_of c.before.before.before.before, appearance-at W c.before.before.before.before.before.before.before.before.before.before.before.before.before.loop.place h, rank_most W c.before.before.before.before.before.before.before.before.before.before.before.before.before.loop.place h, (room c.before.before.before.before.before.before.before.before.before.before.before.before).few)
+    omega (arith, first_of c.before.before.before.before, appearance_at W c.before.before.before.before.before.before.before.before.before.before.before.before.before.loop.place h, rank_most W c.before.before.before.before.before.before.before.before.before.before.before.before.before.loop.place h, (room c.before.before.before.before.before.before.before.before.before.before.before.before).few)
 
 mul-firsts : tie.Need-overflow-mul-firsts invariant-loop decreases-loop
 mul-firsts c = omega (arith, (room c.before.before.before.before.before.before.before.before.before.before.before.before).firsted)
@@ -153,14 +153,14 @@ loop-again c = let start = c.before.before.before.before.before.before.before.be
     let h = below c.before.before.before.before.before.before.before.before.before.before.before.before.before in
     let n = next_of c.before.before.before.before.before.before.before.before.before.before.before.before.before in
     let e = c.before.before.before.before.before.before.before.before.before.before.before.before.scan-word.ensures in
-    let s = c.word-start2.ensures ∙ ap (startFrom a.table.now a.text.now) e.0 in
+    let s = c.word-start2.ensures ∙ ap (start_from a.table.now a.text.now) e.0 in
     let done = c.before.before.before.before.before.add-word in (
       omega (arith, h),
       rw s n.begun,
-      ap (wordsAt a.table.now a.text.now) s ∙ left-next (textWords a.table.now a.text.now) _ _ _ loop.place loop.invariant.2 n.words,
+      ap (words_at a.table.now a.text.now) s ∙ left_next (text_words a.table.now a.text.now) _ _ _ loop.place loop.invariant.2 n.words,
       rw (add-one loop.place) (begun_more a.table.now a.text.now loop.starts loop.place loop.at loop.invariant.3 (room c.before.before.before.before.before.before.before.before.before.before.before.before.before).started loop.invariant.1.inside (spelled c.before.before.before.before.before.before.before.before.before.before.before.before.before)),
-      rw (done.ensures.1, done.ensures.2) (chained_more W loop.place loop.heads loop.links h loop.invariant.4 _ _ (e.1 ∙ ap bucketOf (spelled c.before.before.before.before.before.before.before.before.before.before.before.before.before)) c.before.before.before.before.before.before.before.before.find-earlier.ensures (room c.before.before.before.before.before.before.before.before.before.before.before.before.before).linked),
-      rw (first_of c.before.before.before.before.before, loop.invariant.5) (front-next (firstAppearances W) a.firsts.now loop.place (omega (arith, h, appearances-long W)) (omega (arith, h, start.requires.5))),
+      rw (done.ensures.1, done.ensures.2) (chained_more W loop.place loop.heads loop.links h loop.invariant.4 _ _ (e.1 ∙ ap bucket_of (spelled c.before.before.before.before.before.before.before.before.before.before.before.before.before)) c.before.before.before.before.before.before.before.before.find-earlier.ensures (room c.before.before.before.before.before.before.before.before.before.before.before.before.before).linked),
+      rw (first_of c.before.before.before.before.before, loop.invariant.5) (front_next (first_appearances W) a.firsts.now loop.place (omega (arith, h, appearances_long W)) (omega (arith, h, start.requires.5))),
       done.auto.1.0 ∙ loop.invariant.6,
       length-set loop.starts loop.place loop.at ∙ loop.invariant.7,
       length-set loop.firsts loop.place done.result ∙ loop.invariant.8,
@@ -183,7 +183,7 @@ returns c = let start = c.before.before.before.before.before.before.before.befor
     let a = start.args in
     let loop = c.before.loop in
     let W = spellings a.table.now a.text.now in
-    text-noted a.table.now a.text.now loop.starts a.firsts.now loop.firsts loop.at loop.place c.loop-test.false loop.invariant.0 loop.invariant.2 loop.invariant.3 loop.invariant.5
+    text_noted a.table.now a.text.now loop.starts a.firsts.now loop.firsts loop.at loop.place c.loop-test.false loop.invariant.0 loop.invariant.2 loop.invariant.3 loop.invariant.5
 
 pub note-words-spec : {M : Type 1} → statement M
 note-words-spec =

@@ -8,9 +8,9 @@ use borrow.Fn.PlainCycle.{Measures, is, falls, and}
 use lib.ListN.{length}
 use Rattle.tree.specs.declared.Position.{Position}
 use Rattle.tree.specs.Nodes.{position}
-use Rattle.index.specs.Arrays.{arrays, textIn}
-use Rattle.words.proofs.Parts.{node-from, node-counted}
-use Rattle.words.proofs.Positions.{position-most, at-root, parent-less, at-child}
+use Rattle.index.specs.Arrays.{arrays, text_in}
+use Rattle.words.proofs.Parts.{node_from_lem, node_counted}
+use Rattle.words.proofs.Positions.{position_most, at_root, parent_less, at_child}
 use Rattle.words.proofs.position_in.Reads as position-in
 use Rattle.words.proofs.position_in.Kinds as position-in-kinds
 use Rattle.words.proofs.+position_in.Lts-position_in as position-in-lts
@@ -59,7 +59,7 @@ module _ (t : ℕ) where
       let a = arrays start.args.lengths.now start.args.bytes.now start.args.superblocks.now start.args.blocks.now in
       let z : start.args.node ≡ 0 = omega arith in
       ap (λ (x : Position). x.0) c.root-position.ensures
-      ∙ sym (ap (λ (k : ℕ). position start.args.s k start.args.place.0 (textIn start.args.s a)) z ∙ at-root start.requires.1.0.checked start.args.place.0 (omega (arith, start.requires.1.2)))
+      ∙ sym (ap (λ (k : ℕ). position start.args.s k start.args.place.0 (text_in start.args.s a)) z ∙ at_root start.requires.1.0.checked start.args.place.0 (omega (arith, start.requires.1.2)))
 
   parent-requires : position-in-lts.Need-parent-requires (claims t) (position-in-at t) position-in.Post
   parent-requires c κs = (c.before.before.before.before.before.before.requires.1.0.checked.closing, omega arith)
@@ -70,26 +70,26 @@ module _ (t : ℕ) where
   position-in-requires : position-in-lts.Need-position-in-requires (claims t) (position-in-at t) position-in.Post
   position-in-requires c κs =
       let start = c.before.before.before.before.before.before.before.before in
-      let less = parent-less start.args.s start.args.node (omega arith) in
+      let less = parent_less start.args.s start.args.node (omega arith) in
       (omega (arith, less, c.before.parent.ensures, start.requires.0), (start.requires.1.0, omega (arith, less, c.before.parent.ensures, start.requires.1.1), start.requires.1.2))
 
   count-in-node-requires : position-in-lts.Need-count-in-node-requires (claims t) (position-in-at t) position-in.Post
   count-in-node-requires c κs =
       let start = c.before.before.before.before.before.before.before.before.before in
       let k = c.before.before.parent.result in
-      let h : k < length start.args.lengths.now = omega (arith, parent-less start.args.s start.args.node (omega arith), c.before.before.parent.ensures, start.requires.1.1) in (
-        node-counted start.requires.1.0 k h,
-        rw (node-from start.requires.1.0 k h, c.position-in.ensures) (position-most start.requires.1.0.checked k start.args.place.0),
+      let h : k < length start.args.lengths.now = omega (arith, parent_less start.args.s start.args.node (omega arith), c.before.before.parent.ensures, start.requires.1.1) in (
+        node_counted start.requires.1.0 k h,
+        rw (node_from_lem start.requires.1.0 k h, c.position-in.ensures) (position_most start.requires.1.0.checked k start.args.place.0),
       )
 
   returns-2 : position-in-lts.Need-returns-2 (claims t) (position-in-at t) position-in.Post
   returns-2 c =
       let start = c.before.before.before.before.before.before.before.before.before.before in
       let k = c.before.before.before.parent.result in
-      let h : k < length start.args.lengths.now = omega (arith, parent-less start.args.s start.args.node (omega arith), c.before.before.before.parent.ensures, start.requires.1.1) in
+      let h : k < length start.args.lengths.now = omega (arith, parent_less start.args.s start.args.node (omega arith), c.before.before.before.parent.ensures, start.requires.1.1) in
       c.count-in-node.ensures
-      ∙ rw (node-from start.requires.1.0 k h, c.before.position-in.ensures, c.before.before.digit.ensures, c.before.before.before.parent.ensures)
-      (sym (at-child start.requires.1.0.checked start.args.node start.args.place.0 (omega arith)))
+      ∙ rw (node_from_lem start.requires.1.0 k h, c.before.position-in.ensures, c.before.before.digit.ensures, c.before.before.before.parent.ensures)
+      (sym (at_child start.requires.1.0.checked start.args.node start.args.place.0 (omega arith)))
 
 pub +position-in-spec : {M : Type 1} → statement M
 +position-in-spec =

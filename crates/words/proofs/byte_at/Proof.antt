@@ -1,7 +1,7 @@
 -- `words::byte_at` meets its contract: the byte stands so far from the start of its node. Assumes nothing.
 use native.Mathlib.Omega.{arith}
 use borrow.Author.Rules.{rules}
-use Rattle.words.proofs.Parts.{from-inside, from_byte}
+use Rattle.words.proofs.Parts.{from_inside, from_byte}
 use Rattle.words.proofs.byte_at.Statement.{statement}
 use Rattle.words.proofs.byte_at.Tie as tie
 
@@ -17,12 +17,12 @@ cast-start c = omega (arith, c.shared-slice-known.given c.before.args.node)
 add-result : tie.Need-overflow-add-result
 add-result c =
     let a = c.before.before.args in
-    omega (arith, from-inside a.bytes.now a.starts.now a.node a.at.0 c.before.before.requires.1)
+    omega (arith, from_inside a.bytes.now a.starts.now a.node a.at.0 c.before.before.requires.1)
 
 shared-slice-read-result : tie.Need-shared-slice-read-result
 shared-slice-read-result c =
     let a = c.before.before.before.args in
-    from-inside a.bytes.now a.starts.now a.node a.at.0 c.before.before.before.requires.1
+    from_inside a.bytes.now a.starts.now a.node a.at.0 c.before.before.before.requires.1
 
 returns : tie.Need-returns
 returns c =

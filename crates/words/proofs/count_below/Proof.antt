@@ -4,8 +4,8 @@ use mathlib.Core.Path.{sym, ◌∙◌}
 use native.Mathlib.Omega.{arith}
 use borrow.Author.Rules.{rules}
 use lib.ListN.{length}
-use Rattle.words.proofs.Parts.{node-from, node-counted}
-use Rattle.words.proofs.Positions.{position-most, end-there, often-below}
+use Rattle.words.proofs.Parts.{node_from_lem, node_counted}
+use Rattle.words.proofs.Positions.{position_most, end_there, often_below}
 use Rattle.words.proofs.count_below.Statement.{statement}
 use Rattle.words.proofs.count_below.Tie as tie
 
@@ -13,7 +13,7 @@ use Rattle.words.proofs.count_below.Tie as tie
 here : (c : tie.After-node-of) → c.node_of.result < length c.before.before.before.before.before.before.args.lengths.now
 here c =
     let start = c.before.before.before.before.before.before in
-    rw c.node_of.ensures (end-there start.requires.0.checked start.args.rank start.requires.1)
+    rw c.node_of.ensures (end_there start.requires.0.checked start.args.rank start.requires.1)
 
 node-of-requires : tie.Need-node-of-requires
 node-of-requires c κs = search rules
@@ -30,8 +30,8 @@ count-in-node-requires : tie.Need-count-in-node-requires
 count-in-node-requires c κs =
     let start = c.before.before.before.before.before.before.before.before in
     let k = c.before.before.node_of.result in (
-      node-counted start.requires.0 k (here c.before.before),
-      rw (node-from start.requires.0 k (here c.before.before), c.position_in.ensures) (position-most start.requires.0.checked k start.args.place.0),
+      node_counted start.requires.0 k (here c.before.before),
+      rw (node_from_lem start.requires.0 k (here c.before.before), c.position_in.ensures) (position_most start.requires.0.checked k start.args.place.0),
     )
 
 returns : tie.Need-returns
@@ -40,12 +40,12 @@ returns c =
     let n = c.before.before.before in
     let k = n.node_of.result in (
       record {
-        inside = rw (← n.node_of.ensures, node-from start.requires.0 k (here n), c.before.position_in.ensures) (position-most start.requires.0.checked k start.args.place.0);
+        inside = rw (← n.node_of.ensures, node_from_lem start.requires.0 k (here n), c.before.position_in.ensures) (position_most start.requires.0.checked k start.args.place.0);
         counted = rw (← n.node_of.ensures, ← c.before.before.closing-byte.ensures) (sym c.count-in-node.ensures);
       },
       c.count-in-node.ensures
-          ∙ rw (node-from start.requires.0 k (here n), c.before.position_in.ensures, c.before.before.closing-byte.ensures, n.node_of.ensures)
-          (sym (often-below start.requires.0.checked start.args.rank start.requires.1 start.args.place.0)),
+          ∙ rw (node_from_lem start.requires.0 k (here n), c.before.position_in.ensures, c.before.before.closing-byte.ensures, n.node_of.ensures)
+          (sym (often_below start.requires.0.checked start.args.rank start.requires.1 start.args.place.0)),
     )
 
 pub count-below-spec : {M : Type 1} → statement M

@@ -11,12 +11,12 @@ count-in-step-requires : tie.Need-count-in-step-requires
 count-in-step-requires c κs =
     let start = c.before.before.before.before.before in
     let e = c.step_in.ensures in
-    (rw e.node-is start.requires.0, record { node-is = refl; byte-is = refl; skipped-is = rw (e.node-is, e.byte-is) e.skipped-is }, rw e.node-is start.requires.1)
+    (rw e.node_is start.requires.0, record { node_is = refl; byte_is = refl; skipped_is = rw (e.node_is, e.byte_is) e.skipped_is }, rw e.node_is start.requires.1)
 
 returns : tie.Need-returns
 returns c =
     let e = c.before.step_in.ensures in
-    rw (e.node-is, e.byte-is) at c.count-in-step.ensures
+    rw (e.node_is, e.byte_is) at c.count-in-step.ensures
 
 pub count-in-node-spec : {M : Type 1} → statement M
 count-in-node-spec = tie.close (tie.spec step-in-requires count-in-step-requires returns)

@@ -5,8 +5,8 @@ use native.Mathlib.Omega.{arith}
 use borrow.Author.Rules.{rules}
 use lib.ListN.{length, get_or, take}
 use Rattle.base.specs.Lists.{count_of}
-use Rattle.words.specs.Ready.{nodeFrom}
-use Rattle.words.proofs.Parts.{from_end, from-count}
+use Rattle.words.specs.Ready.{node_from}
+use Rattle.words.proofs.Parts.{from_end, from_count}
 use Rattle.words.proofs.count_in_step.Statement.{statement}
 use Rattle.words.proofs.count_in_step.Tie as tie
 
@@ -16,12 +16,12 @@ inside c = from_end c.args.bytes.now c.args.starts.now c.args.step.node c.args.a
 
 -- what stands in all bytes below the position is what stands before the node and what stands in the node below the position
 both : (c : tie.After-count-below) → let a = c.before.before.before.before.before.before.before.args in
-    c.count-below.result ≡ a.step.skipped + count_of a.step.byte (take a.at.0 (nodeFrom a.bytes.now a.starts.now a.step.node))
+    c.count-below.result ≡ a.step.skipped + count_of a.step.byte (take a.at.0 (node_from a.bytes.now a.starts.now a.step.node))
 both c =
     let start = c.before.before.before.before.before.before.before in
     let a = start.args in
-    rw (c.count-below.ensures, start.requires.1.skipped-is)
-    (from-count a.bytes.now a.starts.now a.step.node a.step.byte a.at.0 start.requires.2)
+    rw (c.count-below.ensures, start.requires.1.skipped_is)
+    (from_count a.bytes.now a.starts.now a.step.node a.step.byte a.at.0 start.requires.2)
 
 mul-start : tie.Need-overflow-mul-start
 mul-start c = search rules

@@ -7,17 +7,17 @@ use lib.ListN.{length, get_or, take}
 use lib.Seq.{take_all}
 use Rattle.base.specs.Lists.{count_of}
 use Rattle.index.specs.Arrays.{arrays}
-use Rattle.words.proofs.Parts.{nodeIn, checked-most, node-size, node-from, node-counted}
-use Rattle.words.proofs.Positions.{end-there, often}
+use Rattle.words.proofs.Parts.{node_in, checked_most, node_size, node_from_lem, node_counted}
+use Rattle.words.proofs.Positions.{end_there, often}
 use Rattle.words.proofs.frequency_by.Statement.{statement}
 use Rattle.words.proofs.frequency_by.Tie as tie
 
 -- the node of the first step is there
 here : (c : tie.Start) → c.args.first.node < length c.args.lengths.now
-here c = rw c.requires.2.node-is (end-there c.requires.0.checked c.args.rank c.requires.1)
+here c = rw c.requires.2.node_is (end_there c.requires.0.checked c.args.rank c.requires.1)
 
 mul-size : tie.Need-overflow-mul-size
-mul-size c = omega (arith, here c.before.before.before.before.before, checked-most c.before.before.before.before.before.requires.0.checked)
+mul-size c = omega (arith, here c.before.before.before.before.before, checked_most c.before.before.before.before.before.requires.0.checked)
 
 shared-slice-read-size : tie.Need-shared-slice-read-size
 shared-slice-read-size c = here c.before.before.before.before.before.before
@@ -30,9 +30,9 @@ count-in-step-requires c κs =
     let start = c.before.before.before.before.before.before in
     let first = start.requires.2 in
     let k = start.args.first.node in (
-      node-counted start.requires.0 k (here start),
-      record { node-is = refl; byte-is = refl; skipped-is = rw (first.node-is, first.byte-is) first.skipped-is },
-      rw (node-from start.requires.0 k (here start)) (omega (arith, node-size start.requires.0.checked k)),
+      node_counted start.requires.0 k (here start),
+      record { node_is = refl; byte_is = refl; skipped_is = rw (first.node_is, first.byte_is) first.skipped_is },
+      rw (node_from_lem start.requires.0 k (here start)) (omega (arith, node_size start.requires.0.checked k)),
     )
 
 returns : tie.Need-returns
@@ -43,9 +43,9 @@ returns c =
     let b = start.args.first.byte in
     let a = arrays start.args.lengths.now start.args.bytes.now start.args.superblocks.now start.args.blocks.now in
     c.count-in-step.ensures
-    ∙ ap (λ (x : List ℕ). count_of b (take (get_or start.args.lengths.now k 0) x)) (node-from start.requires.0 k (here start))
-    ∙ ap (count_of b) (take_all (get_or start.args.lengths.now k 0) (nodeIn a k) (omega (arith, node-size start.requires.0.checked k)))
-    ∙ ap₂ (λ (b k : ℕ). count_of b (nodeIn a k)) first.byte-is first.node-is
+    ∙ ap (λ (x : List ℕ). count_of b (take (get_or start.args.lengths.now k 0) x)) (node_from_lem start.requires.0 k (here start))
+    ∙ ap (count_of b) (take_all (get_or start.args.lengths.now k 0) (node_in a k) (omega (arith, node_size start.requires.0.checked k)))
+    ∙ ap₂ (λ (b k : ℕ). count_of b (node_in a k)) first.byte_is first.node_is
     ∙ sym (often start.requires.0.checked start.args.rank start.requires.1)
 
 pub frequency-by-spec : {M : Type 1} → statement M

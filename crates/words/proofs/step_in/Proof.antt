@@ -17,7 +17,7 @@ count-below-requires : tie.Need-count-below-requires
 count-below-requires c κs = search rules
 
 returns : tie.Need-returns
-returns c = record { node-is = refl; byte-is = refl; skipped-is = c.count-below.ensures }
+returns c = record { node_is = refl; byte_is = refl; skipped_is = c.count-below.ensures }
 
 pub step-in-spec : {M : Type 1} → statement M
 step-in-spec = tie.close (tie.spec mul-start shared-slice-read-start cast-start count-below-requires returns)

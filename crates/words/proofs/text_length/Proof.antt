@@ -2,8 +2,8 @@
 use mathlib.Core.Path.{refl, sym, ◌∙◌}
 use native.Mathlib.Omega.{arith}
 use borrow.Author.Rules.{rules}
-use Rattle.words.proofs.Parts.{node-size}
-use Rattle.words.proofs.Positions.{text-size}
+use Rattle.words.proofs.Parts.{node_size}
+use Rattle.words.proofs.Positions.{text_size_lem}
 use Rattle.words.proofs.text_length.Statement.{statement}
 use Rattle.words.proofs.text_length.Tie as tie
 
@@ -14,7 +14,7 @@ cast-result : tie.Need-overflow-cast-result
 cast-result c = omega (arith, c.shared-slice-known.given 0)
 
 returns : tie.Need-returns
-returns c = (refl, λ s shape ys us ks checked. sym (text-size checked ∙ node-size checked 0))
+returns c = (refl, λ s shape ys us ks checked. sym (text_size_lem checked ∙ node_size checked 0))
 
 pub text-length-spec : {M : Type 1} → statement M
 text-length-spec = tie.close (tie.spec shared-slice-read-result cast-result returns)

@@ -3,7 +3,7 @@ use Prim.Native.Nat.{◌*◌}
 use native.Mathlib.Nat.{mul-pos, div-le_self}
 use native.Mathlib.Omega.{arith}
 use borrow.Author.Rules.{rules}
-use Rattle.writing.specs.Slices.{tooShort}
+use Rattle.writing.specs.Slices.{too_short}
 use Rattle.writing.proofs.too_short.Statement.{statement}
 use Rattle.writing.proofs.too_short.Tie as tie
 
@@ -15,7 +15,7 @@ mul-row-count c = search rules
 
 row-count-requires : tie.Need-row-count-requires
 row-count-requires c κs = let start = c.before.before.before.before.before.before in
-    (mul-pos start.requires.1.someByte start.requires.1.someBlock, start.requires.2)
+    (mul-pos start.requires.1.some_byte start.requires.1.some_block, start.requires.2)
 
 row-count-requires-2 : tie.Need-row-count-requires-2
 row-count-requires-2 c κs = search rules
@@ -29,7 +29,7 @@ mul-result-2 c = let a = c.before.before.before.before.before.before.before.befo
     omega (arith, c.row-count2.ensures, div-le_self a.needed a.shape.block, c.before.before.before.before.before.before.before.before.requires.2)
 
 returns : tie.Need-returns
-unfolding tooShort
+unfolding too_short
 returns c = rw (c.before.before.before.node-count.ensures, c.before.row_count.ensures, c.row-count2.ensures)
 
 pub too-short-spec : {M : Type 1} → statement M

@@ -4,10 +4,10 @@ use mathlib.Core.Path.{◌≡◌, ap, ◌∙◌}
 use mathlib.Core.List.{List}
 use lib.ListN.{length}
 use Rattle.dense.specs.Code.{Closing}
-use Rattle.index.specs.Arrays.{Arrays, arrays, textIn}
-use Rattle.documents.specs.Documents.{oneStart}
+use Rattle.index.specs.Arrays.{Arrays, arrays, text_in}
+use Rattle.documents.specs.Documents.{one_start}
 use Rattle.listing.specs.Paging.{call_of, PageResult, page_of}
-use Rattle.listing.proofs.WithoutStarts.{page-by-root}
+use Rattle.listing.proofs.WithoutStarts.{page_by_root}
 use borrow.Author.Rules.{rules}
 use Rattle.listing.proofs.Listing.page.Statement.{statement}
 use Rattle.listing.proofs.Listing.page.Tie as tie
@@ -17,8 +17,8 @@ abbrev four : tie.Start → Arrays
 four c = arrays c.args.lengths.now c.args.bytes.now c.args.superblocks.now c.args.blocks.now
 
 -- the published code has closing values within the limits
-closing-128 : Closing 128
-closing-128 = search rules
+closing_128 : Closing 128
+closing_128 = search rules
 
 slice-aggregate-one-start : tie.Need-slice-aggregate-one-start
 slice-aggregate-one-start c = search rules
@@ -33,16 +33,16 @@ same_length : tie.Need-same-length
 same_length c = search rules
 
 -- the page with some starts, of the call that came
-abbrev pageWith : tie.Start → List ℕ → PageResult
-pageWith c documents = page_of (call_of 128 c.args.shape (four c) documents c.args.words.now c.args.start c.args.count c.args.lines.now) c.args.self
+abbrev page_with : tie.Start → List ℕ → PageResult
+page_with c documents = page_of (call_of 128 c.args.shape (four c) documents c.args.words.now c.args.start c.args.count c.args.lines.now) c.args.self
 
 returns : tie.Need-returns
 returns c =
     let st = c.before.before.before.before.before.before.before.before.before.before.before.before in
     let p = c.before.before.page-of.ensures in
-    let e : pageWith st c.before.before.before.before.one-start.result.now ≡ pageWith st (oneStart (length (textIn 128 (four st)))) =
-    ap (pageWith st) c.before.before.before.before.one-start.ensures
-    ∙ page-by-root 128 closing-128 st.args.shape (four st) st.args.words.now st.args.start st.args.count st.args.lines.now st.args.self in
+    let e : page_with st c.before.before.before.before.one-start.result.now ≡ page_with st (one_start (length (text_in 128 (four st)))) =
+    ap (page_with st) c.before.before.before.before.one-start.ensures
+    ∙ page_by_root 128 closing_128 st.args.shape (four st) st.args.words.now st.args.start st.args.count st.args.lines.now st.args.self in
     (p.0 ∙ ap (λ (x : PageResult). x.page) e, p.1 ∙ ap (λ (x : PageResult). x.lines) e)
 
 pub page-spec : {M : Type 1} → statement M

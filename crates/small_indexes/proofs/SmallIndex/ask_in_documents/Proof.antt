@@ -2,8 +2,8 @@
 use borrow.Author.Rules.{rules}
 use mathlib.Core.Path.{ap, ◌∙◌}
 use Rattle.index.specs.Arrays.{Arrays}
-use Rattle.questions.specs.Answering.{askAnswerIn}
-use Rattle.small_indexes.proofs.Lent.{four-lent}
+use Rattle.questions.specs.Answering.{ask_answer_in}
+use Rattle.small_indexes.proofs.Lent.{four_lent}
 use Rattle.small_indexes.proofs.SmallIndex.ask_in_documents.Statement.{statement}
 use Rattle.small_indexes.proofs.SmallIndex.ask_in_documents.Tie as tie
 
@@ -37,7 +37,7 @@ ask-in-documents-requires c κs = search rules
 returns : tie.Need-returns
 returns c =
     let st = c.before.before.before.before.before.before.before.before.before.before.before.before.before.before.before in
-    c.ask-in-documents.ensures ∙ ap (λ (a : Arrays). askAnswerIn 128 st.args.self.shape a st.args.documents.now st.args.words.now st.args.question) (four-lent st.args.self c.before.before.before.before.before.before.before.front.ensures c.before.before.before.before.before.front_Bytes.ensures c.before.before.before.front2.ensures c.before.front-blocks.ensures)
+    c.ask-in-documents.ensures ∙ ap (λ (a : Arrays). ask_answer_in 128 st.args.self.shape a st.args.documents.now st.args.words.now st.args.question) (four_lent st.args.self c.before.before.before.before.before.before.before.front.ensures c.before.before.before.before.before.front_Bytes.ensures c.before.before.before.front2.ensures c.before.front-blocks.ensures)
 
 pub ask-in-documents-spec : {M : Type 1} → statement M
 ask-in-documents-spec =

@@ -1,6 +1,6 @@
 -- `small_indexes::SmallIndex::built` meets its contract: the index is built in arrays of nothing but 7. Assumes nothing.
 use borrow.Author.Rules.{rules}
-use Rattle.small_indexes.proofs.Lent.{built-is}
+use Rattle.small_indexes.proofs.Lent.{built_is}
 use Rattle.small_indexes.proofs.SmallIndex.built.Statement.{statement}
 use Rattle.small_indexes.proofs.SmallIndex.built.Tie as tie
 
@@ -22,7 +22,7 @@ build-requires c κs = search rules
 returns : tie.Need-returns
 returns c =
     let st = c.before.before.before.before.before.before.before.before.before.before in
-    built-is st.args.shape st.args.text.now st.args.sizes _ _ c.before.before.before.before.build.ensures.0 c.before.before.before.before.build.ensures.1
+    built_is st.args.shape st.args.text.now st.args.sizes _ _ c.before.before.before.before.build.ensures.0 c.before.before.before.before.build.ensures.1
 
 pub built-spec : {M : Type 1} → statement M
 built-spec =

@@ -2,8 +2,8 @@
 use borrow.Author.Rules.{rules}
 use mathlib.Core.Path.{ap, ◌∙◌}
 use Rattle.index.specs.Arrays.{Arrays}
-use Rattle.index.specs.Entries.{checkAnswer}
-use Rattle.small_indexes.proofs.Lent.{four-lent}
+use Rattle.index.specs.Entries.{check_answer}
+use Rattle.small_indexes.proofs.Lent.{four_lent}
 use Rattle.small_indexes.proofs.SmallIndex.check.Statement.{statement}
 use Rattle.small_indexes.proofs.SmallIndex.check.Tie as tie
 
@@ -37,7 +37,7 @@ check-requires c κs = search rules
 returns : tie.Need-returns
 returns c =
     let st = c.before.before.before.before.before.before.before.before.before.before.before.before.before in
-    c.check.ensures ∙ ap (λ (a : Arrays). checkAnswer 128 st.args.self.shape a) (four-lent st.args.self c.before.before.before.before.before.before.before.front.ensures c.before.before.before.before.before.front_Bytes.ensures c.before.before.before.front2.ensures c.before.front-blocks.ensures)
+    c.check.ensures ∙ ap (λ (a : Arrays). check_answer 128 st.args.self.shape a) (four_lent st.args.self c.before.before.before.before.before.before.before.front.ensures c.before.before.before.before.before.front_Bytes.ensures c.before.before.before.front2.ensures c.before.front-blocks.ensures)
 
 pub check-spec : {M : Type 1} → statement M
 check-spec =

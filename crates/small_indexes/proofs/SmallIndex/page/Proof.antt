@@ -2,10 +2,10 @@
 use borrow.Author.Rules.{rules}
 use mathlib.Core.Path.{ap, ◌∙◌}
 use lib.ListN.{length}
-use Rattle.index.specs.Arrays.{Arrays, textIn}
-use Rattle.documents.specs.Documents.{oneStart}
+use Rattle.index.specs.Arrays.{Arrays, text_in}
+use Rattle.documents.specs.Documents.{one_start}
 use Rattle.listing.specs.Paging.{call_of, page_of}
-use Rattle.small_indexes.proofs.Lent.{four-lent}
+use Rattle.small_indexes.proofs.Lent.{four_lent}
 use Rattle.small_indexes.proofs.SmallIndex.page.Statement.{statement}
 use Rattle.small_indexes.proofs.SmallIndex.page.Tie as tie
 
@@ -42,9 +42,9 @@ same_length c = search rules
 returns : tie.Need-returns
 returns c =
     let st = c.before.before.before.before.before.before.before.before.before.before.before.before.before.before.before.before.before.before in
-    let four = four-lent st.args.self c.before.before.before.before.before.before.before.before.before.before.front.ensures c.before.before.before.before.before.before.before.before.front_Bytes.ensures c.before.before.before.before.before.before.front2.ensures c.before.before.before.before.front-blocks.ensures in (
-      c.before.before.page.ensures.0 ∙ ap (λ (a : Arrays). (page_of (call_of 128 st.args.self.shape a (oneStart (length (textIn 128 a))) st.args.words.now st.args.start st.args.count st.args.lines.now) st.args.state).page) four,
-      c.before.before.page.ensures.1 ∙ ap (λ (a : Arrays). (page_of (call_of 128 st.args.self.shape a (oneStart (length (textIn 128 a))) st.args.words.now st.args.start st.args.count st.args.lines.now) st.args.state).lines) four,
+    let four = four_lent st.args.self c.before.before.before.before.before.before.before.before.before.before.front.ensures c.before.before.before.before.before.before.before.before.front_Bytes.ensures c.before.before.before.before.before.before.front2.ensures c.before.before.before.before.front-blocks.ensures in (
+      c.before.before.page.ensures.0 ∙ ap (λ (a : Arrays). (page_of (call_of 128 st.args.self.shape a (one_start (length (text_in 128 a))) st.args.words.now st.args.start st.args.count st.args.lines.now) st.args.state).page) four,
+      c.before.before.page.ensures.1 ∙ ap (λ (a : Arrays). (page_of (call_of 128 st.args.self.shape a (one_start (length (text_in 128 a))) st.args.words.now st.args.start st.args.count st.args.lines.now) st.args.state).lines) four,
     )
 
 pub page-spec : {M : Type 1} → statement M

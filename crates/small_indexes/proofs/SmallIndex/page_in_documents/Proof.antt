@@ -3,7 +3,7 @@ use borrow.Author.Rules.{rules}
 use mathlib.Core.Path.{ap, ◌∙◌}
 use Rattle.index.specs.Arrays.{Arrays}
 use Rattle.listing.specs.Paging.{call_of, page_of}
-use Rattle.small_indexes.proofs.Lent.{four-lent}
+use Rattle.small_indexes.proofs.Lent.{four_lent}
 use Rattle.small_indexes.proofs.SmallIndex.page_in_documents.Statement.{statement}
 use Rattle.small_indexes.proofs.SmallIndex.page_in_documents.Tie as tie
 
@@ -40,7 +40,7 @@ same_length c = search rules
 returns : tie.Need-returns
 returns c =
     let st = c.before.before.before.before.before.before.before.before.before.before.before.before.before.before.before.before.before.before.before in
-    let four = four-lent st.args.self c.before.before.before.before.before.before.before.before.before.before.front.ensures c.before.before.before.before.before.before.before.before.front_Bytes.ensures c.before.before.before.before.before.before.front2.ensures c.before.before.before.before.front-blocks.ensures in (
+    let four = four_lent st.args.self c.before.before.before.before.before.before.before.before.before.before.front.ensures c.before.before.before.before.before.before.before.before.front_Bytes.ensures c.before.before.before.before.before.before.front2.ensures c.before.before.before.before.front-blocks.ensures in (
       c.before.before.page-in-documents.ensures.0 ∙ ap (λ (a : Arrays). (page_of (call_of 128 st.args.self.shape a st.args.documents.now st.args.words.now st.args.start st.args.count st.args.lines.now) st.args.state).page) four,
       c.before.before.page-in-documents.ensures.1 ∙ ap (λ (a : Arrays). (page_of (call_of 128 st.args.self.shape a st.args.documents.now st.args.words.now st.args.start st.args.count st.args.lines.now) st.args.state).lines) four,
     )

@@ -2,8 +2,8 @@
 use borrow.Author.Rules.{rules}
 use mathlib.Core.Path.{ap, ◌∙◌}
 use Rattle.index.specs.Arrays.{Arrays}
-use Rattle.questions.specs.Passages.{passageAnswer, passageExit}
-use Rattle.small_indexes.proofs.Lent.{four-lent}
+use Rattle.questions.specs.Passages.{passage_answer, passage_exit}
+use Rattle.small_indexes.proofs.Lent.{four_lent}
 use Rattle.small_indexes.proofs.SmallIndex.passage.Statement.{statement}
 use Rattle.small_indexes.proofs.SmallIndex.passage.Tie as tie
 
@@ -40,9 +40,9 @@ same_length c = search rules
 returns : tie.Need-returns
 returns c =
     let st = c.before.before.before.before.before.before.before.before.before.before.before.before.before.before.before.before.before in
-    let four = four-lent st.args.self c.before.before.before.before.before.before.before.before.before.before.front.ensures c.before.before.before.before.before.before.before.before.front_Bytes.ensures c.before.before.before.before.before.before.front2.ensures c.before.before.before.before.front-blocks.ensures in (
-      c.before.before.passage.ensures.0 ∙ ap (λ (a : Arrays). passageAnswer 128 st.args.self.shape a st.args.place st.args.ranks.now) four,
-      c.before.before.passage.ensures.1 ∙ ap (λ (a : Arrays). passageExit 128 st.args.self.shape a st.args.place st.args.ranks.now) four,
+    let four = four_lent st.args.self c.before.before.before.before.before.before.before.before.before.before.front.ensures c.before.before.before.before.before.before.before.before.front_Bytes.ensures c.before.before.before.before.before.before.front2.ensures c.before.before.before.before.front-blocks.ensures in (
+      c.before.before.passage.ensures.0 ∙ ap (λ (a : Arrays). passage_answer 128 st.args.self.shape a st.args.place st.args.ranks.now) four,
+      c.before.before.passage.ensures.1 ∙ ap (λ (a : Arrays). passage_exit 128 st.args.self.shape a st.args.place st.args.ranks.now) four,
     )
 
 pub passage-spec : {M : Type 1} → statement M

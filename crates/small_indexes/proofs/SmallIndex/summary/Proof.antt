@@ -3,8 +3,8 @@ use borrow.Author.Rules.{rules}
 use mathlib.Core.Path.{ap, ◌∙◌}
 use lib.ListN.{length}
 use Rattle.index.specs.Arrays.{Arrays}
-use Rattle.summaries.specs.Summaries.{summaryAnswer, summaryExit}
-use Rattle.small_indexes.proofs.Lent.{four-lent}
+use Rattle.summaries.specs.Summaries.{summary_answer, summary_exit}
+use Rattle.small_indexes.proofs.Lent.{four_lent}
 use Rattle.small_indexes.proofs.SmallIndex.summary.Statement.{statement}
 use Rattle.small_indexes.proofs.SmallIndex.summary.Tie as tie
 
@@ -41,9 +41,9 @@ same_length c = search rules
 returns : tie.Need-returns
 returns c =
     let st = c.before.before.before.before.before.before.before.before.before.before.before.before.before.before.before.before.before.before.before in
-    let four = four-lent st.args.self c.before.before.before.before.before.before.before.before.before.before.front.ensures c.before.before.before.before.before.before.before.before.front_Bytes.ensures c.before.before.before.before.before.before.front2.ensures c.before.before.before.before.front-blocks.ensures in (
-      c.before.before.summary.ensures.0 ∙ ap (λ (a : Arrays). summaryAnswer 128 st.args.self.shape a st.args.documents.now st.args.words.now st.args.start st.args.count (length st.args.counts.now)) four,
-      c.before.before.summary.ensures.1 ∙ ap (λ (a : Arrays). summaryExit 128 st.args.self.shape a st.args.documents.now st.args.words.now st.args.start st.args.count st.args.counts.now) four,
+    let four = four_lent st.args.self c.before.before.before.before.before.before.before.before.before.before.front.ensures c.before.before.before.before.before.before.before.before.front_Bytes.ensures c.before.before.before.before.before.before.front2.ensures c.before.before.before.before.front-blocks.ensures in (
+      c.before.before.summary.ensures.0 ∙ ap (λ (a : Arrays). summary_answer 128 st.args.self.shape a st.args.documents.now st.args.words.now st.args.start st.args.count (length st.args.counts.now)) four,
+      c.before.before.summary.ensures.1 ∙ ap (λ (a : Arrays). summary_exit 128 st.args.self.shape a st.args.documents.now st.args.words.now st.args.start st.args.count st.args.counts.now) four,
     )
 
 pub summary-spec : {M : Type 1} → statement M
