@@ -48,17 +48,14 @@ inline size_t last_places(const std::vector<uint32_t> &text, const std::vector<u
     return 0;
 }
 
-// The most frequent word, where ranks are by frequency, the rarest one of one byte, and the most frequent one of two.
-static const std::vector<uint32_t> most_frequent_word = {0}, word_of_one_byte = {127}, word_of_two_bytes = {128};
+// The most frequent word of two bytes.
+static const std::vector<uint32_t> word_of_two_bytes = {128};
 
 // The pages that are asked of a text, the first of a phrase of two words that stands in it.
 inline std::vector<Page> pages(const std::vector<uint32_t> &text, const std::vector<uint32_t> &standing) {
     const std::vector<uint32_t> frequent = frequent_phrase(text);
-    const std::string last = "the last page of " + std::to_string(page_lines) + " lines", one = " of a word of one byte", word = " of a word of two bytes",
-                      phrase = " of a frequent phrase";
+    const std::string last = "the last page of " + std::to_string(page_lines) + " lines", word = " of a word of two bytes", phrase = " of a frequent phrase";
     return {{page_of(page_lines), standing, 0, page_lines},
-            {page_of(page_lines) + one, word_of_one_byte, 0, page_lines},
-            {page_of(many_lines) + one, word_of_one_byte, 0, many_lines},
             {page_of(page_lines) + word, word_of_two_bytes, 0, page_lines},
             {page_of(page_lines) + phrase, frequent, 0, page_lines},
             {last + word, word_of_two_bytes, last_places(text, word_of_two_bytes, page_lines), page_lines},

@@ -109,8 +109,6 @@ static void measure(const Text &text, Archive &first, Archive &second) {
     for (const Page &page : asked.pages)
         in_both(words, page.what, first, second, [&](const Archive &archive) { return archive.page(page); });
     const std::vector<uint32_t> starts = drawn_starts(1000, words, 20261116), frequent = frequent_phrase(text.words);
-    in_both(words, "the summary of the most frequent word, 1000 starts", first, second,
-            [&](const Archive &archive) { return archive.summary(starts, most_frequent_word); });
     in_both(words, "the summary of a word of two bytes, 1000 starts", first, second,
             [&](const Archive &archive) { return archive.summary(starts, word_of_two_bytes); });
     in_both(words, "the summary of a frequent phrase, 1000 starts", first, second,

@@ -1,25 +1,11 @@
-//! Searches for phrases and for neighbours, against the reference: hits that are found in the whole root, in pieces of it and at places, by an anchor of
-//! one byte, of two or of three, at each place of a piece, of a block and of a text, alone and one upon the other.
+//! Searches for phrases and for neighbours, against the reference: hits that are found by an anchor of one byte, of two or of three, common or rare, at
+//! each place of a piece, of a block and of a text, alone and one upon the other.
 mod support;
 use concordance::entries::{self, RawPage};
 use concordance::{Arrays, Listing, Question, Shape};
 use std::collections::BTreeSet;
-use std::ops::Range;
-use std::sync::OnceLock;
 use support::random::Random;
 use support::{inputs, reference};
-
-/// What a byte of the root costs where the whole root is looked at.
-const BYTE_COST: usize = 3;
-
-/// What each pair of the first bytes of the anchor and of the second costs there.
-const PAIR_COST: usize = 4_000;
-
-/// What an occurrence of the anchor costs where the search goes along its occurrences.
-const OCCURRENCE_COST: usize = 8_000;
-
-/// In how many places a single word of one byte stands at least once for which the root is read from one place to the next.
-const NEAR: usize = 1_024;
 
 /// A vocabulary with words of three bytes that begin with the byte 0 and with the byte 1, as do words of two.
 const VOCABULARY: usize = 33_200;
@@ -35,12 +21,6 @@ const WORDS: [u32; 9] = [5, 127, 128, 300, 16_511, 16_512, 16_700, 32_895, 32_90
 /// A word that stands often.
 const COMMON: u32 = 0;
 
-/// Once in how many places of a text a word begins like the anchor: so often that a piece of the root has many pairs, so rarely that it has few, and so
-/// rarely that the whole root has few.
-const THICK: usize = 3;
-const THIN: usize = 36;
-const BARE: usize = 400;
-
 /// What the slices hold that are lent to be filled.
 const MARK: u32 = 0x7777_7777;
 
@@ -52,7 +32,7 @@ struct Searched {
     arrays: Arrays,
     starts: Vec<u32>,
     pieces: Vec<Vec<u32>>,
-    text: Vec<u32>,
+    n: usize,
 }
 
 impl Searched {
@@ -60,7 +40,7 @@ impl Searched {
     fn new((block, per_superblock): (usize, usize), text: &[u32], starts: &[u32]) -> Searched {
         let shape = Shape { vocabulary: VOCABULARY, block, per_superblock };
         let pieces = reference::documents(text, starts).expect("the starts keep the rules");
-        Searched { shape, arrays: reference::index(shape, text), starts: starts.to_vec(), pieces, text: text.to_vec() }
+        Searched { shape, arrays: reference::index(shape, text), starts: starts.to_vec(), pieces, n: text.len() }
     }
 
     /// The index of a text that is one document, which is searched without starts.
@@ -84,13 +64,12 @@ impl Searched {
         expected.iter().sum()
     }
 
-    /// Compares how often a word has another at each offset from -16 to 16, and adds their sum to what is reached.
-    fn neighbours(&self, reached: &mut Reached, w: u32, v: u32) {
+    /// Compares how often a word has another at each offset from -16 to 16; their sum.
+    fn neighbours(&self, w: u32, v: u32) -> usize {
         let offsets = -16..=16;
         let questions: Vec<Question> = offsets.clone().map(|d| Question::neighbours(w, v, d)).collect();
         let count = |d| self.pieces.iter().map(|piece| reference::neighbours(piece, w, v, d)).sum();
-        let hits = self.sheet(&[], &questions, &offsets.map(count).collect::<Vec<usize>>());
-        reached.add(&self.text, &[w, v], hits);
+        self.sheet(&[], &questions, &offsets.map(count).collect::<Vec<usize>>())
     }
 
     /// Compares the page of a phrase from a place on with these places of the phrase.
@@ -106,7 +85,7 @@ impl Searched {
         let left: Vec<u32> = places.iter().filter(|&&place| place >= next).map(|&place| place as u32).collect();
         let written = left.len().min(lines);
         let more = left.len() > lines;
-        let after = if more { left[lines - 1] as usize + 1 } else { self.text.len() };
+        let after = if more { left[lines - 1] as usize + 1 } else { self.n };
         let listing = Listing { next: after, finished: !more };
         let expected = RawPage { answer: reference::accepted(written), more, listing };
         let theirs = [&left[..written], &vec![MARK; lines - written]].concat();
@@ -132,9 +111,8 @@ impl Searched {
         assert_eq!((answer, ours), (reference::accepted(theirs.len()), theirs), "{phrase:?}, {self}");
     }
 
-    /// Compares the count of a phrase, its summary, its pages and some from places about its hits; how often it stands, which is added to what is
-    /// reached.
-    fn phrase(&self, random: &mut Random, reached: &mut Reached, phrase: &[u32]) -> usize {
+    /// Compares the count of a phrase, its summary, its pages and some from places about its hits; how often it stands.
+    fn phrase(&self, random: &mut Random, phrase: &[u32]) -> usize {
         let places = reference::places_in(&self.pieces, phrase);
         self.sheet(phrase, &[Question::phrase(0, phrase.len())], &[places.len()]);
         self.summary(phrase);
@@ -144,13 +122,12 @@ impl Searched {
             self.pages(phrase, &places, lines);
         }
         for _ in 0..places.len().clamp(1, 3) {
-            let hit = if places.is_empty() { random.below(self.text.len()) } else { random.one_of(&places) };
+            let hit = if places.is_empty() { random.below(self.n) } else { random.one_of(&places) };
             for next in [hit.saturating_sub(1), hit, hit + 1] {
                 self.page(phrase, &places, next, random.between(1, 3));
             }
         }
-        self.page(phrase, &places, self.text.len(), 1);
-        reached.add(&self.text, phrase, places.len());
+        self.page(phrase, &places, self.n, 1);
         places.len()
     }
 }
@@ -159,36 +136,19 @@ impl std::fmt::Display for Searched {
     /// The shape and the beginnings of the starts and of the text.
     fn fmt(&self, out: &mut std::fmt::Formatter) -> std::fmt::Result {
         let few = |words: &[u32]| words[..words.len().min(400)].to_vec();
-        write!(out, "{:?}, {} words, {:?}, {:?}", self.shape, self.text.len(), few(&self.starts), few(&self.text))
+        write!(out, "{:?}, {} words, {:?}, {:?}", self.shape, self.n, few(&self.starts), few(&self.pieces.concat()))
     }
 }
 
 // ---- what is reached
 
-/// Where hits are sought: in the whole root, in the pieces of it in which the anchor stands, at the places of the anchor, or at those of a single word.
-#[derive(Clone, Copy, PartialEq)]
+/// How the hits of an anchor are found: in the whole root, along its occurrences there, or by those of a node of words of two bytes or of three.
+#[derive(Clone, Copy, Debug, PartialEq)]
 enum Way {
-    Root,
-    Pieces,
-    Places,
-    Word,
-}
-
-/// Numbers of hits: for each way those of anchors of one byte, of two and of three.
-#[derive(Debug, Default)]
-struct Reached([[usize; 3]; 4]);
-
-impl Reached {
-    /// Adds the hits of a phrase, or of two neighbours, which are sought as a phrase of the two is.
-    fn add(&mut self, text: &[u32], phrase: &[u32], hits: usize) {
-        let (way, length) = way_of(text, phrase);
-        self.0[way as usize][length - 1] += hits;
-    }
-}
-
-/// Whether each of some numbers of hits is above a bound.
-fn above(hits: &[usize], bound: usize) -> bool {
-    hits.iter().all(|&hits| hits > bound)
+    Sweep,
+    Along,
+    Two,
+    Three,
 }
 
 /// How often a word stands in a text.
@@ -196,48 +156,23 @@ fn frequency(text: &[u32], word: u32) -> usize {
     text.iter().filter(|&&here| here == word).count()
 }
 
-/// The first byte of a word, from a table that is made once.
-fn first_byte(word: u32) -> u8 {
-    static FIRST_BYTES: OnceLock<Vec<u8>> = OnceLock::new();
-    let table = || (0..VOCABULARY as u32).map(|word| reference::code(word)[0]).collect();
-    FIRST_BYTES.get_or_init(table)[word as usize]
+/// The way in which the hits of an anchor are found.
+fn way_of(text: &[u32], anchor: u32) -> Way {
+    match reference::code(anchor).len() {
+        1 if frequency(text, anchor) >= text.len() / 2_048 => Way::Sweep,
+        1 => Way::Along,
+        2 => Way::Two,
+        _ => Way::Three,
+    }
 }
 
-/// How often the first byte of a word stands in the root of a text.
-fn in_root(text: &[u32], word: u32) -> usize {
-    text.iter().filter(|&&here| first_byte(here) == first_byte(word)).count()
-}
-
-/// The numbers of the anchor and of the second of a phrase: of its rarest word, and of the other word whose first byte is rarest in the root.
+/// The numbers of the anchor and of the second of a phrase: of its rarest word, and of the other word whose first byte begins the fewest words.
 fn sides_of(text: &[u32], phrase: &[u32]) -> (usize, usize) {
+    let first = |word: u32| reference::code(word)[0];
+    let alike = |word: u32| text.iter().filter(|&&here| first(here) == first(word)).count();
     let anchor = (0..phrase.len()).min_by_key(|&at| frequency(text, phrase[at])).expect("the phrase has a word");
     let others = (0..phrase.len()).filter(|&at| at != anchor);
-    (anchor, others.min_by_key(|&at| in_root(text, phrase[at])).unwrap_or(anchor))
-}
-
-/// The way in which the hits of a phrase are sought, and the number of bytes of its anchor: the whole root where it costs less than the occurrences, and
-/// otherwise places where the anchor ends in the root or a piece of 64 bytes has more than one pair in the mean.
-fn way_of(text: &[u32], phrase: &[u32]) -> (Way, usize) {
-    let (n, (anchor, second)) = (text.len(), sides_of(text, phrase));
-    let [here, there] = [anchor, second].map(|at| in_root(text, phrase[at]));
-    let (apart, in_piece) = (n / (there + 1), here / (n / 64 + 1));
-    let pairs = here / (apart + 1);
-    let length = reference::code(phrase[anchor]).len();
-    let way = if anchor == second {
-        Way::Word
-    } else if frequency(text, phrase[anchor]) * OCCURRENCE_COST > n * BYTE_COST + pairs * PAIR_COST {
-        Way::Root
-    } else if length == 1 || apart < in_piece {
-        Way::Places
-    } else {
-        Way::Pieces
-    };
-    (way, length)
-}
-
-/// The number of words from which on a text is not looked at as a whole for an anchor that stands so often.
-fn unswept(often: usize) -> usize {
-    (often * OCCURRENCE_COST).div_ceil(BYTE_COST)
+    (anchor, others.min_by_key(|&at| alike(phrase[at])).unwrap_or(anchor))
 }
 
 /// The numbers of other bytes between the closing bytes of a word in the node where its codeword ends.
@@ -254,7 +189,7 @@ fn gaps_of(text: &[u32], word: u32) -> Vec<usize> {
 
 /// Another word that begins with the same byte; of a word of one byte, which no other begins like, the one beside it.
 fn alike(random: &mut Random, word: u32) -> u32 {
-    let first = u32::from(first_byte(word));
+    let first = u32::from(reference::code(word)[0]);
     if first >= 128 {
         return word ^ 1;
     }
@@ -268,14 +203,14 @@ fn alike(random: &mut Random, word: u32) -> u32 {
     }
 }
 
-/// A text of common words, of a second, of words that begin like it and, once in so many places, like an anchor, which does not stand in it.
-fn around(random: &mut Random, size: usize, anchor: u32, second: u32, times: usize) -> Vec<u32> {
+/// A text of common words, of a second and of words that begin like it or like an anchor, which does not stand in it.
+fn around(random: &mut Random, size: usize, anchor: u32, second: u32) -> Vec<u32> {
     let mut text = Vec::with_capacity(size);
     while text.len() < size {
         let word = match random.below(12) {
-            _ if random.once_in(times) => alike(random, anchor),
-            0 | 1 => second,
-            2 => alike(random, second),
+            0 => second,
+            1 => alike(random, second),
+            2 => alike(random, anchor),
             _ => COMMON,
         };
         text.push(if word == anchor { COMMON } else { word });
@@ -299,11 +234,11 @@ fn with(text: &[u32], place: usize, phrase: &[u32]) -> Vec<u32> {
     changed
 }
 
-/// One of the words that begins with another byte.
+/// One of the words that is another.
 fn other_word(random: &mut Random, word: u32) -> u32 {
     loop {
         let other = random.one_of(&WORDS);
-        if first_byte(other) != first_byte(word) {
+        if other != word {
             return other;
         }
     }
@@ -314,63 +249,58 @@ fn other_word(random: &mut Random, word: u32) -> u32 {
 /// Compares the one hit of a phrase, whose anchor stands once, in a text that is whole and in documents; both words are also sought as neighbours.
 fn compare_one(
     random: &mut Random,
-    reached: &mut Reached,
     shape: (usize, usize),
     text: &[u32],
     phrase: &[u32],
     (a, b): (usize, usize),
-) {
+) -> usize {
     assert_eq!((frequency(text, phrase[a]), sides_of(text, phrase)), (1, (a, b)), "{phrase:?}");
     let whole = Searched::whole(shape, text);
-    assert_eq!(whole.phrase(random, reached, phrase), 1, "{phrase:?}, {whole}");
+    assert_eq!(whole.phrase(random, phrase), 1, "{phrase:?}, {whole}");
     let cut = Searched::new(shape, text, &inputs::starts(random, text.len()));
-    cut.phrase(random, reached, phrase);
+    let mut hits = 1 + cut.phrase(random, phrase);
     for searched in [&whole, &cut] {
-        searched.neighbours(reached, phrase[a], phrase[b]);
-        searched.neighbours(reached, phrase[b], phrase[a]);
+        hits += searched.neighbours(phrase[a], phrase[b]) + searched.neighbours(phrase[b], phrase[a]);
     }
+    hits
 }
 
-/// A phrase at each place of a short text, with its anchor, which stands once, first, last and between, where few words begin like it and where many do;
-/// and at each place of two pieces of a text that is too long to be looked at as a whole.
+/// A phrase at each place of a short text, with its anchor, which stands once, first, last and between: one of one byte is sought in the whole root.
 #[test]
 fn each_place() {
     let mut random = Random::of("each_place");
-    let mut reached = Reached::default();
-    for (number, anchor) in WORDS.into_iter().enumerate() {
+    let mut ways = [0; 4];
+    let mut hits = 0;
+    for anchor in WORDS {
         let second = other_word(&mut random, anchor);
-        let (size, times, shapes) = match number % 3 {
-            0 => (random.between(200, 270), BARE, &SHAPES[..]),
-            1 => (random.between(300, 370), THICK, &SHAPES[..]),
-            _ => (unswept(1) + random.below(64), THIN, &SHAPES[SHORT..]),
-        };
-        let base = around(&mut random, size, anchor, second, times);
-        let places = if size < unswept(1) { 0..size - 1 } else { size / 2..size / 2 + 128 };
-        for place in places {
+        let size = random.between(200, 270);
+        let base = around(&mut random, size, anchor, second);
+        for place in 0..size {
             let length = random.one_of(&[2, 3, 5, 16]).min(size - place);
+            if length < 2 {
+                continue;
+            }
             let (phrase, sides) = drawn_phrase(&mut random, length, anchor, second);
             let text = with(&base, place, &phrase);
-            let shape = random.one_of(shapes);
-            compare_one(&mut random, &mut reached, shape, &text, &phrase, sides);
+            ways[way_of(&text, anchor) as usize] += 1;
+            let shape = random.one_of(&SHAPES);
+            hits += compare_one(&mut random, shape, &text, &phrase, sides);
         }
     }
-    let Reached([root, pieces, places, _]) = reached;
-    assert!(above(&root, 1_500) && above(&pieces[1..], 1_000) && above(&places[1..], 2_000), "{reached:?}");
-    assert_eq!(places[0], 0, "{reached:?}");
+    assert!(ways[Way::Along as usize] == 0 && [0, 2, 3].iter().all(|&way| ways[way] > 390), "{ways:?}");
+    assert!(hits > 10_000, "{hits} hits");
 }
 
-/// A word of each length that stands once in a text that is too long to be looked at as a whole, at its ends and about those of pieces, blocks and
-/// superblocks.
+/// A word of each length that stands once in 4,096 places or more, at the ends of the text and about those of pieces, blocks and superblocks.
 #[test]
 fn once_in_a_long_text() {
     let mut random = Random::of("once_in_a_long_text");
-    let mut reached = Reached::default();
-    for (number, shape) in SHAPES.into_iter().enumerate() {
-        let times = if number % 3 == 0 { THICK } else { THIN };
+    let mut hits = [0; 4];
+    for shape in SHAPES {
         for anchor in [random.one_of(&WORDS[..2]), random.one_of(&WORDS[2..5]), random.one_of(&WORDS[5..])] {
             let second = other_word(&mut random, anchor);
-            let size = unswept(1) + random.below(1_900);
-            let base = around(&mut random, size, anchor, second, times);
+            let size = random.between(4_096, 6_000);
+            let base = around(&mut random, size, anchor, second);
             let mut borders = vec![0, 64, 128, 512, 2_048, size];
             borders.extend([shape.0, shape.0 * shape.1].map(|step| step * random.between(1, size.div_ceil(step))));
             for border in borders {
@@ -378,66 +308,47 @@ fn once_in_a_long_text() {
                 let (phrase, sides) = drawn_phrase(&mut random, length, anchor, second);
                 let at = (border + random.below(3)).saturating_sub(1);
                 let text = with(&base, at.saturating_sub(sides.0).min(size - length), &phrase);
-                compare_one(&mut random, &mut reached, shape, &text, &phrase, sides);
+                hits[way_of(&text, anchor) as usize] += compare_one(&mut random, shape, &text, &phrase, sides);
             }
         }
     }
-    let Reached([root, pieces, places, _]) = reached;
-    assert!(root == [0; 3] && above(&pieces[1..], 200) && above(&places, 200), "{reached:?}");
+    assert!(hits[0] == 0 && hits[1..].iter().all(|&hits| hits > 200), "{hits:?}");
 }
 
 // ---- many hits
 
-/// Anchors of each length that stand as often as they may where the whole root is not looked at, and once more.
+/// A word of one byte that stands as often as once in 2,048 places, once more and once less.
 #[test]
 fn at_the_step_of_the_sweep() {
     let mut random = Random::of("at_the_step_of_the_sweep");
-    let mut reached = Reached::default();
-    let sizes = [unswept(1), unswept(3) - 1, unswept(3), unswept(3) + 1, unswept(5), unswept(10)];
-    for (number, size) in sizes.into_iter().enumerate() {
-        for (length, anchors) in [&WORDS[..2], &WORDS[2..5], &WORDS[5..]].into_iter().enumerate() {
-            let anchor = random.one_of(anchors);
+    let (mut swept, mut along) = (0, 0);
+    for size in [6_143, 6_144, 20_479, 20_480, 20_481, 40_000] {
+        for often in size / 2_048 - 1..=size / 2_048 + 1 {
+            let anchor = random.one_of(&[5, 127]);
             let second = other_word(&mut random, anchor);
             let (phrase, sides) = drawn_phrase(&mut random, 4, anchor, second);
-            let base = around(&mut random, size, anchor, second, [THICK, THIN, BARE][(number + length) % 3]);
-            let mut slots: Vec<usize> = (1..size / 8 - 1).map(|slot| 8 * slot).collect();
-            for at in 0..slots.len() {
-                slots.swap(at, random.below(at + 1));
+            let mut text = around(&mut random, size, anchor, second);
+            let mut slots = BTreeSet::from([0, size - 4]);
+            while slots.len() < often {
+                slots.insert(8 * random.between(1, size / 8 - 2));
             }
-            slots.splice(0..0, [0, size - 4]);
-            let mut copies = vec![phrase.clone(); slots.len()];
-            for copy in copies.iter_mut().skip(1) {
-                if random.once_in(4) {
-                    copy[sides.1] = alike(&mut random, second);
+            for &slot in slots.iter().take(often) {
+                text[slot..slot + 4].copy_from_slice(&phrase);
+                if slot > 0 && random.once_in(4) {
+                    text[slot + sides.1] = alike(&mut random, second);
                 }
             }
-            let filled = |often: usize| {
-                let mut text = base.clone();
-                for (&slot, copy) in slots.iter().zip(&copies).take(often) {
-                    text[slot..slot + 4].copy_from_slice(copy);
-                }
-                text
-            };
-            let (mut along, mut swept) = (0, slots.len());
-            while swept - along > 1 {
-                let often = (along + swept) / 2;
-                match way_of(&filled(often), &phrase).0 {
-                    Way::Root => swept = often,
-                    _ => along = often,
-                }
+            assert_eq!((frequency(&text, anchor), sides_of(&text, &phrase)), (often, sides));
+            let searched = Searched::whole(random.one_of(&SHAPES[SHORT..]), &text);
+            let hits = searched.phrase(&mut random, &phrase) + searched.neighbours(second, anchor);
+            match way_of(&text, anchor) {
+                Way::Sweep => swept += hits,
+                _ => along += hits,
             }
-            for often in [along, swept] {
-                let text = filled(often);
-                assert_eq!((frequency(&text, anchor), sides_of(&text, &phrase)), (often, sides));
-                assert_eq!(way_of(&text, &phrase).0 == Way::Root, often == swept);
-                let searched = Searched::whole(random.one_of(&SHAPES[SHORT..]), &text);
-                searched.phrase(&mut random, &mut reached, &phrase);
-                searched.neighbours(&mut reached, second, anchor);
-            }
+            assert_eq!(way_of(&text, anchor) == Way::Sweep, often >= size / 2_048);
         }
     }
-    let Reached([root, pieces, places, _]) = reached;
-    assert!(above(&root, 100) && above(&pieces[1..], 100) && above(&places, 70), "{reached:?}");
+    assert!(swept > 100 && along > 40, "{swept} swept, {along} along");
 }
 
 /// A text in which the anchor of a phrase of three words stands again after each of some gaps, which are filled with words of its node and with some of
@@ -457,25 +368,19 @@ fn gapped(random: &mut Random, gaps: &[usize], inside: &[u32], others: &[u32], p
     text
 }
 
-/// Anchors whose next occurrence in their node is few bytes ahead, as far as is read on, and farther, in the root and in nodes of two and three bytes,
-/// with a second that stands often and one that stands rarely.
+/// Anchors whose next occurrence in their node is few bytes ahead, as far as is read on, and farther, in the root and in nodes of two and three bytes.
 #[test]
 fn gaps_in_the_node() {
     let mut random = Random::of("gaps_in_the_node");
-    let mut reached = Reached::default();
-    let two: Vec<u32> = (256..384).chain([32_900]).collect();
-    let three: Vec<u32> = (16_640..16_768).collect();
-    let (beside_two, beside_three) = ([0, 7, 7, 7, 90, 16_700], [0, 7, 7, 7, 90, 128, 16_512]);
+    let mut hits = [0; 4];
     for (anchor, inside, others, size) in [
-        (5, vec![0, 7, 7, 7, 90, 300, 600, 16_700], vec![], unswept(12)),
-        (300, two.clone(), [&beside_two[..], &[600]].concat(), 0),
-        (300, two, [&beside_two.repeat(3)[..], &[600]].concat(), 0),
-        (16_700, three.clone(), [&beside_three[..], &[600]].concat(), 0),
-        (16_700, three, [&beside_three.repeat(3)[..], &[600]].concat(), 0),
+        (5, vec![0, 7, 7, 7, 90, 300, 600, 16_700], vec![], 40_000),
+        (300, (256..384).chain([32_900]).collect(), vec![0, 7, 7, 7, 90, 600, 16_700], 0),
+        (16_700, (16_640..16_768).collect(), vec![0, 7, 7, 7, 90, 128, 600, 16_512], 0),
     ] {
         let inside: Vec<u32> = inside.into_iter().filter(|&word| word != anchor).collect();
         let beside = if others.is_empty() { 2 } else { 0 };
-        let mut gaps = vec![beside, beside + 1, 65, 129, 512, 1_022, 1_023, 1_024, 1_025, 1_026, 2_048, 2_060];
+        let mut gaps = vec![beside, beside + 1, 65, 128, 129, 510, 511, 512, 513, 514, 1_024, 1_030];
         gaps.rotate_left(random.below(12));
         let phrase = [7, anchor, 600];
         let filled: Vec<usize> = gaps.iter().map(|gap| gap - beside).collect();
@@ -483,101 +388,60 @@ fn gaps_in_the_node() {
         while text.len() < size {
             text.push(random.one_of(&inside));
         }
+        let way = way_of(&text, anchor);
         assert_eq!((gaps_of(&text, anchor), sides_of(&text, &phrase)), (gaps[1..].to_vec(), (1, 2)), "{anchor}");
         for shape in SHAPES.into_iter().skip(SHORT) {
             let searched = Searched::whole(shape, &text);
             let starts = inputs::starts(&mut random, text.len());
             let cut = Searched::new(shape, &text, &starts);
             for part in [&phrase[..], &phrase[..2], &phrase[1..], &[anchor]] {
-                searched.phrase(&mut random, &mut reached, part);
-                cut.phrase(&mut random, &mut reached, part);
+                hits[way as usize] += searched.phrase(&mut random, part) + cut.phrase(&mut random, part);
             }
-            searched.neighbours(&mut reached, 600, anchor);
-            cut.neighbours(&mut reached, anchor, 7);
+            hits[way as usize] += searched.neighbours(600, anchor) + cut.neighbours(anchor, 7);
         }
     }
-    let Reached([root, pieces, places, word]) = reached;
-    assert!(root == [0; 3] && above(&pieces[1..], 150) && above(&places, 600) && above(&word, 150), "{reached:?}");
+    assert!(hits[0] == 0 && hits[1..].iter().all(|&hits| hits > 300), "{hits:?}");
 }
 
-/// Compares phrases of one word and more from a part of a text, with pages of one line and pages from each third place of the part.
-fn compare_part(random: &mut Random, reached: &mut Reached, searched: &Searched, part: Range<usize>) {
-    for length in [1, 2, 3, random.between(4, 16)] {
-        let from = random.between(part.start, part.end - length);
-        let phrase = &searched.text[from..from + length];
-        searched.phrase(random, reached, phrase);
-        let places = reference::places_in(&searched.pieces, phrase);
-        searched.pages(phrase, &places, 1);
-        for next in part.clone().filter(|next| next % 3 == from % 3) {
-            searched.page(phrase, &places, next, random.one_of(&[1, 2, 64, places.len() + 1]));
-        }
-    }
-}
-
-/// Few words in short texts, which stand many times in a piece, in runs and one upon the other, and such runs in longer texts of words that begin alike:
-/// pages of one line up to all, from each third place.
+/// Few words in short texts, which stand many times in a piece, in runs and one upon the other: pages of one line up to all, from each third place.
 #[test]
 fn hits_upon_hits() {
     let mut random = Random::of("hits_upon_hits");
-    let mut reached = Reached::default();
-    for set in [
-        &[5][..],
-        &[300],
-        &[32_900],
-        &[5, 90],
-        &[300, 5],
-        &[300, 301],
-        &[300, 301, 302, 303, 304, 305],
-        &[128, 16_512, 129, 16_513, 130, 16_514],
-        &[16_700, 16_701, 16_640, 16_641, 16_800, 32_895],
-    ] {
-        for number in 0..3 {
-            let size = random.between(160, 300);
+    let sets = [&[5][..], &[5, 90], &[300, 301], &[300, 5], &[16_700, 16_701, 16_640], &[128, 16_512, 129], &[32_900]];
+    let mut hits = [0; 4];
+    for set in sets {
+        for _ in 0..4 {
+            let size = random.between(130, 330);
             let mut text = Vec::new();
             while text.len() < size {
-                let run = random.one_of(&[1, 1, 1, 2, 3, 20, 70]).min(100 / set.len());
+                let run = random.one_of(&[1, 1, 1, 2, 3, 20, 70]);
                 text.extend(vec![random.one_of(set); run]);
             }
-            let starts = if number > 0 { vec![0] } else { inputs::starts(&mut random, text.len()) };
+            let starts = if random.once_in(2) { vec![0] } else { inputs::starts(&mut random, text.len()) };
             let searched = Searched::new(random.one_of(&SHAPES), &text, &starts);
-            compare_part(&mut random, &mut reached, &searched, 0..text.len());
-            for &w in set {
-                for &v in set {
-                    searched.neighbours(&mut reached, w, v);
+            for length in [1, 2, 3, random.between(4, 16)] {
+                let from = random.below(text.len() - length + 1);
+                let phrase = &text[from..from + length];
+                hits[way_of(&text, phrase[sides_of(&text, phrase).0]) as usize] += searched.phrase(&mut random, phrase);
+                let places = reference::places_in(&searched.pieces, phrase);
+                searched.pages(phrase, &places, 1);
+                for next in (0..=text.len()).filter(|next| next % 3 == from % 3) {
+                    searched.page(phrase, &places, next, random.one_of(&[1, 2, 64, places.len() + 1]));
                 }
             }
+            let pairs = searched.neighbours(set[0], set[0]) + searched.neighbours(set[0], random.one_of(set));
+            hits[way_of(&text, set[0]) as usize] += pairs;
         }
     }
-    for anchor in WORDS.into_iter().filter(|&word| word >= 128) {
-        let size = random.between(12_000, 13_000);
-        let other = alike(&mut random, anchor);
-        let mut text = vec![COMMON; size];
-        for word in text.iter_mut() {
-            if random.once_in(10) {
-                *word = alike(&mut random, anchor);
-            }
-        }
-        let run: Vec<u32> = (0..30).map(|_| random.one_of(&[anchor, anchor, other])).collect();
-        let place = random.below(size - 30);
-        let text = with(&text, place, &run);
-        let (shape, starts) = (random.one_of(&SHAPES[SHORT..]), inputs::starts(&mut random, size));
-        for searched in [Searched::whole(shape, &text), Searched::new(shape, &text, &starts)] {
-            compare_part(&mut random, &mut reached, &searched, place..place + 30);
-            searched.neighbours(&mut reached, anchor, anchor);
-            searched.neighbours(&mut reached, anchor, other);
-        }
-    }
-    let Reached([root, pieces, places, word]) = reached;
-    assert!(above(&root, 10_000) && above(&places[1..], 10_000), "{reached:?}");
-    assert!(above(&pieces[1..], 600) && above(&word, 500), "{reached:?}");
+    assert!([0, 2, 3].iter().all(|&way| hits[way] > 10_000), "{hits:?}");
 }
 
 /// Pairs of words of each length at each offset, of a word with itself too, in texts that are shorter than the offsets, at their ends, and in longer
-/// ones, where the words stand often and rarely.
+/// ones, where words of one byte stand often and rarely.
 #[test]
 fn offsets() {
     let mut random = Random::of("offsets");
-    let mut short = Reached::default();
+    let mut short = 0;
     for _ in 0..400 {
         let size = random.between(1, 36);
         let words = [random.one_of(&WORDS), random.one_of(&WORDS), COMMON];
@@ -585,18 +449,15 @@ fn offsets() {
         let drawn = inputs::starts(&mut random, size);
         let starts = if random.once_in(2) { vec![0] } else { drawn };
         let searched = Searched::new(random.one_of(&SHAPES), &text, &starts);
-        for (w, v) in [(words[0], words[1]), (words[2], words[0]), (words[1], words[1])] {
-            searched.neighbours(&mut short, w, v);
-        }
+        short += searched.neighbours(words[0], words[1]) + searched.neighbours(words[2], words[0]);
+        short += searched.neighbours(words[1], words[1]);
     }
-    let mut long = Reached::default();
+    let mut hits = [0; 4];
     for word in WORDS {
         let second = other_word(&mut random, word);
-        for (often, size, times) in
-            [(2, unswept(2), THIN), (3, unswept(3), THIN), (60, 8_192, BARE), (30, 8_192, THICK)]
-        {
-            let size = size + random.below(800);
-            let mut text = around(&mut random, size, word, second, times);
+        for often in [2, 3, 60] {
+            let size = random.between(8_192, 9_000);
+            let mut text = around(&mut random, size, word, second);
             let mut places = BTreeSet::from([0, size - 1]);
             while places.len() < often {
                 places.insert(random.below(size));
@@ -610,26 +471,21 @@ fn offsets() {
             }
             assert_eq!(frequency(&text, word), often);
             let searched = Searched::whole(random.one_of(&SHAPES[SHORT..]), &text);
-            for (w, v) in [(word, second), (second, word), (word, word)] {
-                searched.neighbours(&mut long, w, v);
-            }
+            let pairs = searched.neighbours(word, second) + searched.neighbours(second, word);
+            hits[way_of(&text, word) as usize] += pairs + searched.neighbours(word, word);
         }
     }
-    let Reached([root, ..]) = short;
-    assert!(above(&root, 5_000), "{short:?}");
-    let Reached([root, pieces, places, _]) = long;
-    assert!(above(&root, 1_500) && above(&pieces[1..], 60) && above(&places, 40), "{long:?}");
+    assert!(short > 10_000 && hits.iter().all(|&hits| hits > 20), "{short}, {hits:?}");
 }
 
-/// A phrase of one word, whose places are found one by one, along its way or, of one byte that stands often, through the root: pages and summaries of words of
-/// each length, that stand often, rarely and once.
+/// A phrase of one word, whose places are found one by one: pages and summaries of words of each length, that stand often, rarely and once.
 #[test]
 fn single_words() {
     let mut random = Random::of("single_words");
-    let (mut rare, mut common) = (Reached::default(), Reached::default());
+    let mut hits = [0; 4];
     for shape in SHAPES {
         let size = random.between(8_192, 9_000);
-        let mut text = around(&mut random, size, 16_700, 300, THIN);
+        let mut text = around(&mut random, size, 16_700, 300);
         for (word, often) in [(5, 1), (127, 40), (16_511, 3), (16_512, 90), (32_900, 1)] {
             for _ in 0..often {
                 text[random.below(size)] = word;
@@ -639,16 +495,11 @@ fn single_words() {
         let starts = inputs::starts(&mut random, size);
         let searched = [Searched::whole(shape, &text), Searched::new(shape, &text, &starts)];
         for word in WORDS.into_iter().filter(|&word| frequency(&text, word) > 0) {
-            let often = frequency(&text, word);
-            assert!(word > 127 || (often < 5) == (often < size / NEAR), "{word}: {often} of {size}");
-            let reached = if often < 5 { &mut rare } else { &mut common };
-            for one in &searched {
-                one.phrase(&mut random, reached, &[word]);
-            }
+            let way = way_of(&text, word) as usize;
+            hits[way] += searched.iter().map(|searched| searched.phrase(&mut random, &[word])).sum::<usize>();
         }
     }
-    let (Reached([.., few]), Reached([.., many])) = (&rare, &common);
-    assert!(above(few, 20) && above(many, 500), "{rare:?}, {common:?}");
+    assert!(hits.iter().all(|&hits| hits > 20), "{hits:?}");
 }
 
 // ---- what is no hit
@@ -657,7 +508,7 @@ fn single_words() {
 #[test]
 fn words_that_begin_alike() {
     let mut random = Random::of("words_that_begin_alike");
-    let mut reached = Reached::default();
+    let mut hits = [0; 4];
     let mut passed = 0;
     for phrase in [
         &[300, 5][..],
@@ -665,49 +516,46 @@ fn words_that_begin_alike() {
         &[300, 301],
         &[128, 16_512],
         &[16_700, 300, 16_701, 128],
-        &[16_700, 16_701],
         &[16_700, 16_700],
         &[32_900, 300, 32_900],
     ] {
-        for (step, slots, times) in [(8, 500, 2), (8, 1_500, 48), (20, 2_500, 64)] {
-            let size = step * random.between(slots, slots + 300);
+        for often in [1, 3] {
+            let size = random.between(3_000, 7_000);
             let mut text = vec![COMMON; size];
-            for slot in (0..size - step).step_by(step) {
+            for slot in (0..size - 8).step_by(8) {
                 let place = slot + random.below(4);
-                let whole = random.once_in(times);
                 for (at, &word) in phrase.iter().enumerate() {
-                    let stands = whole || random.once_in(if word < 128 { 2 * times } else { times });
-                    text[place + at] = if stands { word } else { alike(&mut random, word) };
+                    let times = if word < 128 { often + 2 } else { often + 1 };
+                    text[place + at] = if random.once_in(times) { word } else { alike(&mut random, word) };
                 }
             }
             text[size - phrase.len()..].copy_from_slice(phrase);
-            let begins =
-                |words: &[u32]| words.iter().zip(phrase).all(|(&one, &other)| first_byte(one) == first_byte(other));
-            let begun = text.windows(phrase.len()).filter(|words| begins(words)).count();
+            let first_bytes = |words: &[u32]| words.iter().map(|&word| reference::code(word)[0]).collect::<Vec<u8>>();
+            let begun = text.windows(phrase.len()).filter(|words| first_bytes(words) == first_bytes(phrase)).count();
             let starts = inputs::starts(&mut random, size);
             let shape = random.one_of(&SHAPES[SHORT..]);
             for searched in [Searched::whole(shape, &text), Searched::new(shape, &text, &starts)] {
-                passed += begun - searched.phrase(&mut random, &mut reached, phrase);
-                searched.neighbours(&mut reached, phrase[0], phrase[1]);
-                searched.neighbours(&mut reached, phrase[1], phrase[0]);
+                let found = searched.phrase(&mut random, phrase);
+                let pairs = searched.neighbours(phrase[0], phrase[1]) + searched.neighbours(phrase[1], phrase[0]);
+                hits[way_of(&text, phrase[sides_of(&text, phrase).0]) as usize] += found + pairs;
+                passed += begun - found;
             }
         }
     }
-    let Reached([root, pieces, places, _]) = reached;
-    assert!(above(&root, 2_000) && above(&pieces[1..], 60) && above(&places[1..], 300), "{reached:?}");
-    assert!(passed > 20_000, "{passed} passed");
+    assert!([0, 2, 3].iter().all(|&way| hits[way] > 100), "{hits:?}");
+    assert!(passed > 1_000, "{passed} passed");
 }
 
 /// Documents that start inside hits, at them and after them: those that are cut are no hits.
 #[test]
 fn cut_hits() {
     let mut random = Random::of("cut_hits");
-    let (mut left, mut cut) = (Reached::default(), Reached::default());
+    let (mut left, mut cut) = ([0; 4], [0; 4]);
     for anchor in WORDS {
-        for (often, size, times) in [(6, unswept(6), THIN), (60, 8_192, BARE), (30, 8_192, THICK)] {
+        for often in [3, 60] {
             let second = other_word(&mut random, anchor);
-            let size = size + random.below(800);
-            let mut text = around(&mut random, size, anchor, second, times);
+            let size = random.between(8_192, 9_000);
+            let mut text = around(&mut random, size, anchor, second);
             let length = random.between(2, 6);
             let (phrase, sides) = drawn_phrase(&mut random, length, anchor, second);
             let mut slots = BTreeSet::new();
@@ -716,7 +564,7 @@ fn cut_hits() {
             }
             let mut starts = BTreeSet::from([0]);
             for (number, slot) in slots.into_iter().enumerate() {
-                let cut = match number % 4 {
+                let cut = match number {
                     0 => random.between(1, length - 1),
                     1 => 0,
                     _ => random.between(0, length),
@@ -727,22 +575,20 @@ fn cut_hits() {
             assert_eq!((frequency(&text, anchor), sides_of(&text, &phrase)), (often, sides));
             let starts: Vec<u32> = starts.into_iter().filter(|&start| (start as usize) < size).collect();
             let searched = Searched::new(random.one_of(&SHAPES[SHORT..]), &text, &starts);
-            let found = searched.phrase(&mut random, &mut left, &phrase);
-            cut.add(&text, &phrase, often - found);
-            searched.neighbours(&mut left, anchor, second);
-            searched.neighbours(&mut left, second, anchor);
+            let found = searched.phrase(&mut random, &phrase);
+            let pairs = searched.neighbours(anchor, second) + searched.neighbours(second, anchor);
+            let way = way_of(&text, anchor) as usize;
+            left[way] += found + pairs;
+            cut[way] += often - found;
         }
     }
-    let Reached([root, pieces, places, _]) = left;
-    assert!(above(&root, 600) && above(&pieces[1..], 50) && above(&places, 30), "{left:?}");
-    let Reached([root, pieces, places, _]) = cut;
-    assert!(above(&root, 20) && above(&pieces[1..], 3) && above(&places, 3), "{cut:?}");
+    assert!(left.iter().chain(&cut).all(|&hits| hits > 0) && left.iter().sum::<usize>() > 300, "{left:?}, {cut:?}");
 }
 
 // ---- any text
 
 /// Words of one byte that are rare in a drawn text.
-const RARE: Range<u32> = 100..128;
+const RARE: std::ops::Range<u32> = 100..128;
 
 /// A text of words that stand the more often the lower their rank, but for the rare ones, with passages that come again.
 fn drawn_text(random: &mut Random, size: usize) -> Vec<u32> {
@@ -765,39 +611,39 @@ fn drawn_text(random: &mut Random, size: usize) -> Vec<u32> {
     text
 }
 
-/// Phrases of 1 to 16 words and pairs that stand in texts of up to 40,000 words, with anchors of each length, common and rare, before their seconds and
-/// after them.
+/// Phrases of 1 to 16 words and pairs that stand in texts of up to 40,000 words, which have anchors of each way, before their seconds and after them.
 #[test]
 fn drawn_texts() {
     let mut random = Random::of("drawn_texts");
-    let (mut reached, mut orders) = (Reached::default(), [0; 2]);
-    for size in [600, 3_000, 12_000, 40_000] {
+    let (mut ways, mut orders, mut hits) = ([0; 4], [0; 2], 0);
+    for size in [3_000, 12_000, 40_000] {
         let text = drawn_text(&mut random, size);
         for shape in [random.one_of(&SHAPES[SHORT..7]), random.one_of(&SHAPES[7..])] {
             let starts = inputs::starts(&mut random, size);
             let searched = [Searched::whole(shape, &text), Searched::new(shape, &text, &starts)];
-            for _ in 0..70 {
+            for _ in 0..60 {
                 let length = random.one_of(&[1, 2, 2, 2, 3, 3, 4, 5, 8, 16]);
                 let any = random.below(size - length);
                 let from = match random.below(8) {
                     0 => 0,
                     1 => size - length,
                     2 | 3 => (any..size - length).find(|&place| RARE.contains(&text[place])).unwrap_or(any),
-                    4 => (any..size - length).find(|&place| text[place] >= 16_512).unwrap_or(any),
                     _ => any,
                 };
                 let phrase = &text[from..from + length];
                 let (anchor, second) = sides_of(&text, phrase);
+                ways[way_of(&text, phrase[anchor]) as usize] += 1;
                 if anchor != second {
                     orders[usize::from(anchor < second)] += 1;
                 }
                 let one = &searched[random.below(2)];
-                one.phrase(&mut random, &mut reached, phrase);
-                one.neighbours(&mut reached, phrase[0], phrase[length - 1]);
+                hits += one.phrase(&mut random, phrase) + one.neighbours(phrase[0], phrase[length - 1]);
             }
         }
     }
-    let Reached([root, pieces, places, _]) = reached;
-    assert!(above(&root, 20) && above(&pieces[1..], 50) && places[0] > 10, "{reached:?}");
-    assert!(above(&orders, 50) && reached.0.concat().iter().sum::<usize>() > 5_000, "{orders:?}, {reached:?}");
+    assert!(
+        ways.iter().all(|&phrases| phrases > 2) && orders.iter().all(|&phrases| phrases > 50),
+        "{ways:?}, {orders:?}"
+    );
+    assert!(hits > 5_000, "{hits} hits");
 }

@@ -4,6 +4,8 @@
 //
 // No function of this crate is an entry: each requires that the four slices have passed the check,
 // and `starts` is the table that `starts::node_starts` fills.
+#![tactic(auto)]
+
 ghost use Rattle.std.specs.Prelude.{◌≡◌, ◌≤◌, ◌<◌, length};
 ghost use Rattle.base.specs.Texts.{max_words};
 ghost use Rattle.index.specs.Arrays.{Arrays, arrays, text_in};
@@ -19,7 +21,7 @@ use tree::Place;
 
 // The second word of what is sought: its number among the words, and how many bytes of the root the
 // anchor and the second stand after the earlier of the two.
-#[derive(Drop)]
+#[derive(Clone, Copy)]
 pub struct Second {
     pub number: usize,
     pub here: usize,

@@ -2,6 +2,8 @@
 // rank is the vocabulary's size, is looked for nowhere: the text has no rank that is not below it.
 //
 // No function of this crate is an entry: each requires what its callers have tested.
+#![tactic(auto)]
+
 ghost use Rattle.std.specs.Prelude.{◌≡◌, true};
 ghost use Rattle.index.specs.Arrays.{Arrays, arrays, text_in};
 ghost use Rattle.words.specs.Ready.{Ready};

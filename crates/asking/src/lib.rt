@@ -1,5 +1,7 @@
 // The entries that ask: a single question, with document starts or without, and a passage, with 128
 // closing values in `ask`, `ask_in_documents` and `passage`.
+#![tactic(auto)]
+
 ghost use Rattle.std.specs.Prelude.{◌≡◌};
 ghost use Rattle.dense.specs.Code.{Closing};
 ghost use Rattle.index.specs.Arrays.{arrays};

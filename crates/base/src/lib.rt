@@ -1,5 +1,7 @@
 // What every crate of the engine shares: the answer of a call, the limits of paper 01, the numbers
 // of the table of refusals (`refusal`), and the search for a rank that is outside the vocabulary.
+#![tactic(auto)]
+
 pub mod refusal;
 
 ghost use Rattle.std.specs.Prelude.{◌≡◌, min, leb};
@@ -20,7 +22,7 @@ pub const MAX_SUPERBLOCK: usize = 65535;
 
 // The answer of a call: 0 and its value, or a refusal's number and what is returned with it.
 #[repr(C)]
-#[derive(Drop)]
+#[derive(Clone, Copy)]
 pub struct Answer {
     pub refusal: u32,
     pub value: usize,

@@ -41,26 +41,25 @@ scan_position x j block = go (below_or_not j (count_of x block))
 pub piece_most : (x i n : ℕ) (block : List ℕ) → count_of x (take (i + n) block) ≤ count_of x (take i block) + n
 piece_most x i n block = omega (arith, count_part x i n block, count_most x (take n (drop i block)), length-take n (drop i block))
 
--- a position is not past the occurrence where at most j of x stand before it
-pub not_past : (x j i : ℕ) (block : List ℕ) → i ≤ length block → count_of x (take i block) ≤ j → i ≤ nth x j block
-not_past x j i block here most = go (below_or_not j (count_of x block))
+-- the first i bytes and n more do not reach the occurrence, where as many as n others are left to pass after the first i
+pub not_past : (x j i n : ℕ) (block : List ℕ) → i + n ≤ length block → count_of x (take i block) + n ≤ j → i + n ≤ nth x j block
+not_past x j i n block here left = go (below_or_not j (count_of x block))
   where
-    go : (j < count_of x block) ⊎ (count_of x block ≤ j) → i ≤ nth x j block
-    go (inl h) = by (nth_found x j block h) (below_or_not (nth x j block) i)
+    most : count_of x (take (i + n) block) ≤ j
+    most = omega (arith, piece_most x i n block)
+
+    go : (j < count_of x block) ⊎ (count_of x block ≤ j) → i + n ≤ nth x j block
+    go (inl h) = by (nth_found x j block h) (below_or_not (nth x j block) (i + n))
       where
-        by : Found x j block → (nth x j block < i) ⊎ (i ≤ nth x j block) → i ≤ nth x j block
+        by : Found x j block → (nth x j block < i + n) ⊎ (i + n ≤ nth x j block) → i + n ≤ nth x j block
         by f (inl less) =
-            absurd (omega (arith, most, f.before, count_hit x block (nth x j block) f.inside f.stands, count_take_rises x (suc (nth x j block)) i block (omega arith)))
+            absurd (omega (arith, most, f.before, count_hit x block (nth x j block) f.inside f.stands, count_take_rises x (suc (nth x j block)) (i + n) block (omega arith)))
         by f (inr past) = past
     go (inr h) = omega (arith, nth_none x j block h)
 
--- the first i bytes and n more, at most 64, are before the occurrence, where as many as n others are left to pass after the first i: a
--- piece that may be lent with the bytes before it
-pub piece_not_past : (x j i n : ℕ) (block : List ℕ) → n ≤ 64 → i + n ≤ length block → count_of x (take i block) + n ≤ j
-    → (i ≤ length (take (i + n) block)) × (length (take (i + n) block) ≤ i + 64) × (length (take (i + n) block) ≤ nth x j (take (i + n) block))
-piece_not_past x j i n block short here left =
-    let size : length (take (i + n) block) ≡ i + n = length-take (i + n) block ∙ omega arith in
-    (omega arith, omega arith, omega (arith, nth_none x j (take (i + n) block) (omega (arith, piece_most x i n block))))
+-- a position is not past the occurrence where at most j of x stand before it
+pub not-past-one : (x j i : ℕ) (block : List ℕ) → i ≤ length block → count_of x (take i block) ≤ j → i ≤ nth x j block
+not-past-one x j i block h c = omega (arith, not_past x j i 0 block (omega arith) (omega arith))
 
 -- a scan that has read i bytes with j of x, and then x, ends there
 pub scan_hit : (x j i : ℕ) (block : List ℕ) → i < length block → get_or block i 0 ≡ x → count_of x (take i block) ≡ j

@@ -1,5 +1,5 @@
 -- The scan of one block for the occurrence of a byte that has j others before it.
-use Rattle.std.specs.Prelude.{ℕ, suc, ◌+◌, ◌-◌, ◌≤◌, ◌≡◌, true, false, cond, List, eqb, ltb, length, take, get_or}
+use Rattle.std.specs.Prelude.{ℕ, suc, ◌+◌, ◌≤◌, ◌≡◌, true, false, cond, List, ltb, length, take, get_or}
 use Rattle.base.specs.Lists.{count_of, nth}
 use Rattle.block_scan.specs.declared.Where.{Where}
 use Rattle.block_scan.specs.declared.Where.TheVariants.{At, Nowhere}
@@ -24,10 +24,6 @@ position_of Nowhere n = n
 pub record ReadSoFar (x j : ℕ) (block : List ℕ) (p : Progress) : Type 0 where
   pub inside : p.read ≤ length block
   pub passed : count_of x (take p.read block) + p.left ≡ j
-
--- what reading the last of the bytes that a block begins with gives: whether it is x, and their number
-unfoldable pub last_of : ℕ → List ℕ → Look
-last_of x front = record { met = eqb (get_or front (length front - 1) 0) x; read = length front }
 
 -- bytes were read on from a position: the last of them is the first x since, or there was none
 pub record Looked (x from : ℕ) (block : List ℕ) (r : Look) : Type 0 where

@@ -1,21 +1,22 @@
 // The scan of one block for the occurrence of a byte that has j others before it. It ends at the
-// occurrence: the bytes from the block's start through it are read, and no other. Bytes are read by
-// `read_byte` and, many at once, by `read_piece`. Both are lent the block's bytes up to those that
-// they read and none behind them, and require that these do not go past the occurrence. The functions
-// above them lend parts of the block and read none of it.
-ghost use Rattle.std.specs.Prelude.{◌≡◌, false, suc, ◌+◌, ◌≤◌, length, take};
+// occurrence: the bytes from the block's start through it are read, each once, and no other. Every
+// byte of a block is read by `read_byte`, which may not be called past the occurrence and counts the
+// byte that it reads.
+#![tactic(auto)]
+
+ghost use Rattle.std.specs.Prelude.{◌≡◌, false, suc, ◌+◌, ◌≤◌, ◌<◌, length, take};
 ghost use Rattle.base.specs.Lists.{count_of, nth as nth_of};
-ghost use Rattle.block_scan.specs.BlockScans.{scan_of, position_of, ReadSoFar, last_of, Looked};
+ghost use Rattle.block_scan.specs.BlockScans.{scan_of, position_of, ReadSoFar, Looked};
 
 // Where an occurrence stands in a block.
-#[derive(Drop)]
+#[derive(Clone, Copy)]
 pub enum Where {
     At(usize),
     Nowhere,
 }
 
 // What a scan gives: where the occurrence stands, and the number of bytes that were read.
-#[derive(Drop)]
+#[derive(Clone, Copy)]
 pub struct Scanned {
     pub stands: Where,
     pub read: usize,
@@ -23,14 +24,14 @@ pub struct Scanned {
 
 // How far a scan has come: the number of bytes that were read, and how many others are left to pass
 // before the occurrence.
-#[derive(Drop)]
+#[derive(Clone, Copy)]
 pub struct Progress {
     pub read: usize,
     pub left: usize,
 }
 
 // Whether the last byte that was read is the one sought, and the number of bytes that were read.
-#[derive(Drop)]
+#[derive(Clone, Copy)]
 pub struct Look {
     pub met: bool,
     pub read: usize,
@@ -38,52 +39,44 @@ pub struct Look {
 
 // What was read of a piece: how often the byte stands there, and the number of bytes that were read
 // with it.
-#[derive(Drop)]
+#[derive(Clone, Copy)]
 pub struct Piece {
     pub found: usize,
     pub read: usize,
 }
 
-// How often a byte stands in a part of at most 255 bytes; the count is a byte itself, so that many
-// bytes are compared at once.
-pub fn count_few(part: &[u8], byte: u8) -> u8
-    requires { length part.now ≤ 255 }
-    ensures { result ≡ count_of byte part.now }
+// Reads the next byte of a block, which is not past the occurrence of a byte that has j others before
+// it, and counts it.
+fn read_byte(block: &[u8], read: usize, byte: u8, j: usize) -> Look
+    requires { (read < length block.now) × (read ≤ nth_of byte j block.now) }
+    ensures { (result.read ≡ suc read) × Looked byte read block.now result }
+{
+    Look {
+        met: block[read] == byte,
+        read: read + 1,
+    }
+}
+
+// Reads a piece of a block at once, which ends before the occurrence of a byte that has j others
+// before it.
+fn read_piece(block: &[u8], from: usize, width: usize, byte: u8, j: usize) -> Piece
+    requires { (width ≤ 64) × (from + width ≤ nth_of byte j block.now) }
+    ensures { (result.read ≡ from + width) × (count_of byte (take from block.now) + result.found ≡ count_of byte (take result.read block.now)) }
 {
     let mut found: u8 = 0;
+    let mut read = from;
     let mut i = 0;
-    while i < part.len() {
-        if part[i] == byte {
+    while i < width {
+        let here = read_byte(block, read, byte, j);
+        read = here.read;
+        i += 1;
+        if here.met {
             found += 1;
         }
-        i += 1;
     }
-    found
-}
-
-// Reads the last of the bytes that a block begins with, which is not past the occurrence of a byte
-// that has j others before it, and counts it.
-fn read_byte(front: &[u8], byte: u8, j: usize) -> Look
-    requires { (1 ≤ length front.now) × (length front.now ≤ suc (nth_of byte j front.now)) }
-    ensures { result ≡ last_of byte front.now }
-{
-    let last = front.len() - 1;
-    Look {
-        met: front[last] == byte,
-        read: last + 1,
-    }
-}
-
-// Reads the bytes from a position on at once, at most 64, of those that a block begins with, which end
-// before the occurrence of a byte that has j others before it.
-fn read_piece(front: &[u8], from: usize, byte: u8, j: usize) -> Piece
-    requires { (from ≤ length front.now) × (length front.now ≤ from + 64) × (length front.now ≤ nth_of byte j front.now) }
-    ensures { (result.read ≡ length front.now) × (count_of byte (take from front.now) + result.found ≡ count_of byte front.now) }
-{
-    let found = count_few(&front[from..], byte) as usize;
     Piece {
-        found,
-        read: front.len(),
+        found: found as usize,
+        read,
     }
 }
 
@@ -96,32 +89,11 @@ fn read_pieces(block: &[u8], width: usize, byte: u8, j: usize, passed: Progress)
     let mut left = passed.left;
     let mut read = passed.read;
     while width <= base::least(left, block.len() - read) {
-        let end = read + width;
-        let piece = read_piece(&block[..end], read, byte, j);
+        let piece = read_piece(block, read, width, byte, j);
         left -= piece.found;
         read = piece.read;
     }
     Progress { read, left }
-}
-
-// Reads on to the next occurrence of a byte, which is not past the one that has j others before it,
-// or so many bytes.
-fn read_some(block: &[u8], from: usize, count: usize, byte: u8, j: usize) -> Look
-    requires { (from + count ≤ length block.now) × (count_of byte (take from block.now) ≤ j) }
-    ensures { Looked byte from block.now result × (result.met ≡ false → result.read ≡ from + count) }
-{
-    let mut read = from;
-    let mut i = 0;
-    while i < count {
-        let end = read + 1;
-        let here = read_byte(&block[..end], byte, j);
-        if here.met {
-            return here;
-        }
-        read = here.read;
-        i += 1;
-    }
-    Look { met: false, read }
 }
 
 // Reads on to the next occurrence of a byte, which is not past the one that has j others before it,
@@ -132,11 +104,39 @@ fn read_eights(block: &[u8], from: usize, byte: u8, j: usize) -> Look
 {
     let mut read = from;
     while 8 <= block.len() - read {
-        let eight = read_some(block, read, 8, byte, j);
-        if eight.met {
-            return eight;
+        let first = read_byte(block, read, byte, j);
+        if first.met {
+            return first;
         }
-        read = eight.read;
+        let second = read_byte(block, first.read, byte, j);
+        if second.met {
+            return second;
+        }
+        let third = read_byte(block, second.read, byte, j);
+        if third.met {
+            return third;
+        }
+        let fourth = read_byte(block, third.read, byte, j);
+        if fourth.met {
+            return fourth;
+        }
+        let fifth = read_byte(block, fourth.read, byte, j);
+        if fifth.met {
+            return fifth;
+        }
+        let sixth = read_byte(block, fifth.read, byte, j);
+        if sixth.met {
+            return sixth;
+        }
+        let seventh = read_byte(block, sixth.read, byte, j);
+        if seventh.met {
+            return seventh;
+        }
+        let eighth = read_byte(block, seventh.read, byte, j);
+        if eighth.met {
+            return eighth;
+        }
+        read = eighth.read;
     }
     Look { met: false, read }
 }
@@ -151,20 +151,15 @@ fn read_on(block: &[u8], from: usize, byte: u8, j: usize) -> Look
     if eights.met {
         return eights;
     }
-    let read = eights.read;
-    read_some(block, read, block.len() - read, byte, j)
-}
-
-// The position of the first occurrence of a byte in a part, the part's length where there is none. No
-// byte past it is read.
-pub fn next_of(part: &[u8], byte: u8) -> usize
-    ensures { result ≡ nth_of byte 0 part.now }
-{
-    let next = read_on(part, 0, byte, 0);
-    if next.met {
-        return next.read - 1;
+    let mut read = eights.read;
+    while read < block.len() {
+        let here = read_byte(block, read, byte, j);
+        if here.met {
+            return here;
+        }
+        read = here.read;
     }
-    next.read
+    Look { met: false, read }
 }
 
 // Scans a block for the occurrence of a byte that has j others before it: by pieces while many others

@@ -1,6 +1,8 @@
 // Building the index of a text in lent slices, over the number s of closing byte values.
 //
 // The entries are `build` and `build_sized`, with 128 closing values.
+#![tactic(auto)]
+
 ghost use Rattle.std.specs.Prelude.{◌≡◌};
 ghost use Rattle.dense.specs.Code.{Closing};
 ghost use Rattle.index.specs.Arrays.{arrays};

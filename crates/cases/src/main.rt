@@ -33,6 +33,8 @@
 // Slices that are filled held nothing but 7 before, those of lines, of counts, of word lists and of
 // ranks read from plain text nothing but 9. Of a word list that is made and of its ranks the first 20
 // elements are printed.
+#![tactic(auto)]
+
 mod lists;
 mod shown;
 mod state;

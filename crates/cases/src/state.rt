@@ -6,7 +6,7 @@ use small_indexes::{SmallIndex, shape_of};
 
 // The index that calls are lent, the lent words, the document starts and whether calls bring them,
 // the state of the listing, and the word list.
-#[derive(Drop)]
+#[derive(Clone, Copy)]
 pub struct State {
     pub small: SmallIndex,
     pub words: [u32; given::MOST],

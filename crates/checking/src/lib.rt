@@ -2,6 +2,8 @@
 //
 // The entry is `check`, with 128 closing values. The other functions require what their callers have
 // tested and are no entries.
+#![tactic(auto)]
+
 ghost use Rattle.std.specs.Prelude.{◌≡◌, ◌<◌, length};
 ghost use Rattle.base.specs.Lists.{total};
 ghost use Rattle.dense.specs.Code.{Closing};

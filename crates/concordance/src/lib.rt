@@ -3,6 +3,8 @@
 //
 // `include/concordance.h` declares them. A slice passes as a pointer and a length, and the structs
 // pass by value as C has them.
+#![tactic(auto)]
+
 ghost use Rattle.std.specs.Prelude.{◌≡◌, length};
 ghost use Rattle.dense.specs.Streams.{write_stream_answer, write_stream_exit, read_stream_answer, read_stream_exit};
 ghost use Rattle.index.specs.Arrays.{arrays, text_in};

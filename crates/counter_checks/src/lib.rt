@@ -1,5 +1,7 @@
 // The directory of bytes verified, in one pass over the bytes: the bytes of a block are counted, then
 // its 256 counters are compared. Inner functions: their callers have checked the sizes.
+#![tactic(auto)]
+
 ghost use Rattle.std.specs.Prelude.{◌≡◌, ◌+◌, ◌*◌, ◌/◌, ◌≤◌, suc, length, take, drop};
 ghost use Rattle.base.specs.Lists.{Below, same};
 ghost use Rattle.directory.specs.Counters.{is_directory, Sizes};

@@ -1,5 +1,7 @@
 // The directory of bytes filled, in one pass over the bytes: the bytes of a block are counted, then
 // its 256 counters are written. Inner functions: their callers have checked the sizes.
+#![tactic(auto)]
+
 ghost use Rattle.std.specs.Prelude.{◌≡◌, ◌+◌, ◌*◌, ◌/◌, ◌≤◌, suc, length};
 ghost use Rattle.std.proofs.Math.Seq.{paste};
 ghost use Rattle.base.specs.Lists.{Below};

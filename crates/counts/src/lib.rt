@@ -3,6 +3,8 @@
 //
 // No function of this crate is an entry: each requires that the four slices have passed the check,
 // and `starts` is the table that `starts::node_starts` fills.
+#![tactic(auto)]
+
 ghost use Rattle.std.specs.Prelude.{◌≡◌, true, suc, ◌≤◌, ◌<◌, nat_abs, length};
 ghost use Rattle.base.specs.Texts.{max_offset};
 ghost use Rattle.index.specs.Arrays.{Arrays, arrays, text_in};

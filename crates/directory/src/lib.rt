@@ -2,11 +2,30 @@
 // the occurrence stands that has j others before it, and in which piece of 64 bytes it lies. The
 // directory has rows of 256 numbers, one a superblock and one a block. Inner functions: their callers
 // have checked the directory.
+#![tactic(auto)]
+
 ghost use Rattle.std.specs.Prelude.{◌≡◌, ◌+◌, ◌*◌, ◌/◌, ◌≤◌, ◌<◌, length, get_or, take};
 ghost use Rattle.base.specs.Lists.{count_of, nth as nth_of};
 ghost use Rattle.directory.specs.Counters.{Sizes, Directory};
 ghost use Rattle.directory.specs.Tables.{LastRow};
 ghost use Rattle.directory.specs.Blocks.{BlockWith};
+
+// How often a byte stands in a part of at most 255 bytes; the count is a byte itself, so that many
+// bytes are compared at once.
+fn count_few(part: &[u8], byte: u8) -> u8
+    requires { length part.now ≤ 255 }
+    ensures { result ≡ count_of byte part.now }
+{
+    let mut found: u8 = 0;
+    let mut i = 0;
+    while i < part.len() {
+        if part[i] == byte {
+            found += 1;
+        }
+        i += 1;
+    }
+    found
+}
 
 // How often a byte stands in a part.
 pub fn count_in(part: &[u8], byte: u8) -> usize
@@ -16,7 +35,7 @@ pub fn count_in(part: &[u8], byte: u8) -> usize
     let mut i = 0;
     while i < part.len() {
         let stop = base::least(i + 192, part.len());
-        found += block_scan::count_few(&part[i..stop], byte) as usize;
+        found += count_few(&part[i..stop], byte) as usize;
         i = stop;
     }
     found
@@ -163,7 +182,7 @@ pub fn count_below(
 
 // The block in which an occurrence lies, if there is one: its start and its end, how many others are
 // left to pass in it, and the superblock row in which it was found.
-#[derive(Drop)]
+#[derive(Clone, Copy)]
 struct Held {
     start: usize,
     stop: usize,
@@ -204,7 +223,7 @@ fn block_with(
 }
 
 // An occurrence of a byte: its position, and the superblock row in which it was found.
-#[derive(Drop)]
+#[derive(Clone, Copy)]
 pub struct Occurrence {
     pub at: usize,
     pub superblock: usize,
@@ -248,7 +267,7 @@ fn piece_in(part: &[u8], byte: u8, rest: usize) -> usize
     let mut i = 0;
     while 64 < part.len() - i {
         let stop = i + 64;
-        let found = block_scan::count_few(&part[i..stop], byte) as usize;
+        let found = count_few(&part[i..stop], byte) as usize;
         if left < found {
             return i;
         }
@@ -260,7 +279,7 @@ fn piece_in(part: &[u8], byte: u8, rest: usize) -> usize
 
 // A piece of the bytes, from a position to before another, and the superblock row in which it was
 // found.
-#[derive(Drop)]
+#[derive(Clone, Copy)]
 pub struct Span {
     pub from: usize,
     pub to: usize,
@@ -295,8 +314,8 @@ pub fn piece_of(
 }
 
 // The occurrence of a byte that has j others before it, where j stand before a position, at the number
-// of bytes where there is none: read on to it from there, and after 1,024 bytes without it sought in
-// the directory.
+// of bytes where there is none: read on from there, and after 512 bytes without it sought in the
+// directory.
 pub fn nth_from(
     bytes: &[u8],
     superblocks: &[u32],
@@ -311,8 +330,8 @@ pub fn nth_from(
     requires { Sizes block per bytes.now × Directory block per bytes.now superblocks.now blocks.now × (from ≤ length bytes.now) × (count_of byte (take from bytes.now) ≡ j) }
     ensures { result.at ≡ nth_of byte j bytes.now }
 {
-    let stop = base::least(from + 1024, bytes.len());
-    let ahead = block_scan::next_of(&bytes[from..stop], byte);
+    let stop = base::least(from + 512, bytes.len());
+    let ahead = pairs::next_of(&bytes[from..stop], byte);
     if ahead < stop - from {
         return Occurrence {
             at: from + ahead,

@@ -1,5 +1,7 @@
 // The check of an index together with the document starts that are brought with it, which every call
 // that brings starts makes first.
+#![tactic(auto)]
+
 ghost use Rattle.std.specs.Prelude.{◌≡◌};
 ghost use Rattle.dense.specs.Code.{Closing};
 ghost use Rattle.index.specs.Arrays.{arrays};

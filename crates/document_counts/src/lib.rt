@@ -3,6 +3,8 @@
 //
 // No function of this crate is an entry: `count_by_document` requires that the four slices have
 // passed the check, and that the document starts keep the rules.
+#![tactic(auto)]
+
 ghost use Rattle.std.specs.Prelude.{◌≡◌, true, map, ◌+◌, ◌-◌, ◌≤◌, ◌<◌, length, get_or, set};
 ghost use Rattle.base.specs.Lists.{range_from};
 ghost use Rattle.base.specs.Answers.{front};

@@ -1,5 +1,7 @@
 // The nodes of a text: their lengths are counted, and then each byte of each codeword is written
 // behind those that its node has so far. Inner functions: their callers have checked the sizes.
+#![tactic(auto)]
+
 ghost use Rattle.std.specs.Prelude.{◌≡◌, ◌+◌, ◌<◌, length, get_or, set, take, replicate};
 ghost use mathlib.Core.List.{flatten};
 ghost use Rattle.base.specs.Lists.{total};

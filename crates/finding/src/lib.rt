@@ -1,5 +1,7 @@
 // A spelled word, found in a word list: the entry `find_word`, and the same with any table that keeps
 // the rules.
+#![tactic(auto)]
+
 ghost use Rattle.std.specs.Prelude.{◌≡◌, true, false, length};
 ghost use Rattle.base.specs.Texts.{outside};
 ghost use Rattle.dense.specs.Code.{max_vocabulary};

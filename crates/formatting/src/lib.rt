@@ -2,6 +2,8 @@
 //
 // Each function writes from a position of the slice on and returns the position after what it
 // wrote; the rest of the slice stays. They require that the slice has room, and are no entries.
+#![tactic(auto)]
+
 ghost use Rattle.std.specs.Prelude.{◌≡◌, ◌+◌, ◌*◌, ◌<◌, ◌≤◌, length};
 ghost use Rattle.formatting.specs.Characters.{digit_of, decimal, labelled, byte_text, bytes_text};
 ghost use Rattle.formatting.specs.Writing.{Wrote};

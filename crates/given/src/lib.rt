@@ -1,4 +1,6 @@
 // What a line of the programs that run cases gives: its numbers, and bytes that are spelled out.
+#![tactic(auto)]
+
 ghost use Rattle.std.specs.Prelude.{◌≤◌, length};
 
 // The most numbers of a line.
@@ -6,7 +8,7 @@ pub const MOST: usize = 32;
 
 // The numbers of a line in their order, how many there are, the base of the last, and whether one is
 // negative. Numbers past the most there is room for are left out, and so are digits past 64 bits.
-#[derive(Drop)]
+#[derive(Clone, Copy)]
 pub struct Numbers {
     pub values: [usize; MOST],
     pub count: usize,
@@ -147,7 +149,7 @@ pub fn narrow(n: usize) -> u32 {
 }
 
 // Ranks, and how many there are.
-#[derive(Drop)]
+#[derive(Clone, Copy)]
 pub struct Ranks {
     pub values: [u32; MOST],
     pub count: usize,
@@ -182,7 +184,7 @@ impl Ranks {
 }
 
 // Bytes, how many there are, and how much of a byte that is spelled out has been read.
-#[derive(Drop)]
+#[derive(Clone, Copy)]
 pub struct Spelled {
     pub bytes: [u8; 64],
     pub count: usize,

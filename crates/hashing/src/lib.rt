@@ -1,4 +1,6 @@
 // The hash table of a part of a word list, in slices that are lent, and the look-up of a word in it.
+#![tactic(auto)]
+
 ghost use Rattle.std.specs.Prelude.{◌≡◌, true, ℕ, ◌-◌, ◌≤◌, ◌<◌, length, drop, get_or};
 ghost use Rattle.lexicon.specs.Letters.{is_table};
 ghost use Rattle.scanning.specs.Scans.{run_at, words_at, WordBegins, bucket_of};

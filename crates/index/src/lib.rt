@@ -1,6 +1,8 @@
 // The index of a text: the node lengths, the node bytes and the counters of the bytes, over the
 // number s of closing byte values. Its definitions are in `specs/`, its laws in `proofs/`; the crates
 // `building` and `checking` have the calls.
+#![tactic(auto)]
+
 ghost use Rattle.std.specs.Prelude.{◌≡◌};
 ghost use Rattle.dense.specs.Code.{Closing};
 ghost use Rattle.index.specs.Entries.{limits_refusal};
@@ -9,7 +11,7 @@ use base::refusal;
 
 // The size of the vocabulary V, the block length B and the number b of blocks of a superblock.
 #[repr(C)]
-#[derive(Drop)]
+#[derive(Clone, Copy)]
 pub struct Shape {
     pub vocabulary: usize,
     pub block: usize,

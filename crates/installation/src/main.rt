@@ -1,5 +1,7 @@
 // The sheet of a new installation: each line says what is tried, what came of it, and in brackets
 // what another result would mean.
+#![tactic(auto)]
+
 use base::Answer;
 use listing::Listing;
 use measuring::IndexSizes;

@@ -1,5 +1,7 @@
 // The calls that are lent a letter table: the entries `read_text_with`, `find_word_with` and
 // `make_list_with`, and the theorem about them and about the check of a table.
+#![tactic(auto)]
+
 ghost use Rattle.std.specs.Prelude.{◌≡◌};
 ghost use Rattle.lent_tables.specs.Calls.{read_text_with_answer, read_text_with_exit, find_word_with_answer, list_made_with, make_list_with_exit, make_ranks_with_exit};
 

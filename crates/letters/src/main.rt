@@ -1,5 +1,7 @@
 // Prints the letter table: sixteen lines of sixteen entries, each as a blank and two hexadecimal
 // digits.
+#![tactic(auto)]
+
 ghost use Rattle.std.specs.Prelude.{◌≤◌, ◌<◌, length};
 
 // Prints a line of sixteen entries.

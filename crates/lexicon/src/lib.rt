@@ -1,5 +1,7 @@
 // What plain text, its letters and its word list are (specs), the letter table over ISO 8859-1, and
 // the check of a table that is lent.
+#![tactic(auto)]
+
 ghost use Rattle.std.specs.Prelude.{◌≡◌, ◌&&◌, length};
 ghost use Rattle.lexicon.specs.Letters.{letters, is_entry, keeps_entries, has_letter, is_table};
 ghost use Rattle.lexicon.specs.Tables.{table_answer};

@@ -1,5 +1,7 @@
 // A word list out of a plain text: the entry `make_list`, and the same with any table that keeps the
 // rule.
+#![tactic(auto)]
+
 ghost use Rattle.std.specs.Prelude.{◌≡◌, true, ◌≤◌, length};
 ghost use Rattle.lexicon.specs.Letters.{letters as lettersOf, is_table};
 ghost use Rattle.list_calls.specs.Making.{max_list_text, list_made, make_list_exit, make_ranks_exit};

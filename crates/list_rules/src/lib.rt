@@ -1,5 +1,7 @@
 // Whether a word list keeps the rules: the number of its words, how they are written, and that none is
 // there twice.
+#![tactic(auto)]
+
 ghost use Rattle.std.specs.Prelude.{◌≡◌, true, ◌≤◌, length, drop};
 ghost use Rattle.lexicon.specs.Letters.{is_table};
 ghost use Rattle.lexicon.specs.Lexicon.{list_size, distinct, is_written};

@@ -1,5 +1,7 @@
 // A word list out of a plain text that is not too long for it, made in tables that are lent: the words
 // are noted, counted, sorted and written.
+#![tactic(auto)]
+
 ghost use Rattle.std.specs.Prelude.{◌≡◌, true, ◌≤◌, length};
 ghost use Rattle.lexicon.specs.Letters.{is_table};
 ghost use Rattle.list_calls.specs.Making.{max_list_text, list_made, make_list_exit, make_ranks_exit};

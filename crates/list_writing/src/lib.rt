@@ -1,5 +1,7 @@
 // The list and the ranks of a plain text of which all is noted: whether they have room, and how they are
 // written.
+#![tactic(auto)]
+
 ghost use Rattle.std.specs.Prelude.{◌≡◌, true, [], ◌∷◌, ◌++◌, map, suc, ◌+◌, ◌≤◌, length, get_or, take};
 ghost use Rattle.base.specs.Answers.{front, written};
 ghost use Rattle.base.specs.Lists.{Below};

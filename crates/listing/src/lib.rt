@@ -1,5 +1,7 @@
 // A listing of the places where a phrase stands, page by page: anywhere in the text, or only inside
 // one document.
+#![tactic(auto)]
+
 ghost use Rattle.std.specs.Prelude.{◌≡◌, true, false, length};
 ghost use Rattle.base.specs.Answers.{is_accepted};
 ghost use Rattle.dense.specs.Code.{Closing};
@@ -15,7 +17,7 @@ use tree::Place;
 // The state of a listing, which each page takes and hands back: the next place, and whether it is
 // finished.
 #[repr(C)]
-#[derive(Drop)]
+#[derive(Clone, Copy)]
 pub struct Listing {
     pub next: usize,
     pub finished: bool,
@@ -23,7 +25,7 @@ pub struct Listing {
 
 // What a page returns: its answer, whether more hits follow, and the state for the next page.
 #[repr(C)]
-#[derive(Drop)]
+#[derive(Clone, Copy)]
 pub struct Page {
     pub answer: Answer,
     pub more: bool,

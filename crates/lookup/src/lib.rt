@@ -1,5 +1,7 @@
 // The words of a text, looked up in a word list part by part: how many are listed, and the first that is
 // not.
+#![tactic(auto)]
+
 ghost use Rattle.std.specs.Prelude.{◌≡◌, true, ◌≤◌, length, take};
 ghost use Rattle.lexicon.specs.Letters.{is_table};
 ghost use Rattle.lexicon.specs.Lexicon.{distinct};

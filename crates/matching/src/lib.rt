@@ -3,6 +3,8 @@
 //
 // No function of this crate is an entry: each requires that the four slices have passed the check,
 // and `starts` is the table that `starts::node_starts` fills.
+#![tactic(auto)]
+
 ghost use Rattle.std.specs.Prelude.{◌≡◌, true, ◌&&◌, ◌+◌, ◌≤◌, ◌<◌, eqb, pos, ◌+ℤ◌, nat_abs, length, get_or};
 ghost use Rattle.base.specs.Lists.{Below};
 ghost use Rattle.base.specs.Answers.{front};
@@ -23,7 +25,7 @@ use tree::{Place, Position};
 
 // What is sought, beside its words: a phrase of them, or the first of two with the second at an
 // offset, which is negative to the left.
-#[derive(Drop)]
+#[derive(Clone, Copy)]
 pub enum Sought {
     Phrase,
     Pair(i32),

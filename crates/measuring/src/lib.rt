@@ -2,6 +2,8 @@
 // before any memory is lent for it.
 //
 // The entry is `measure`, with 128 closing values.
+#![tactic(auto)]
+
 ghost use Rattle.std.specs.Prelude.{◌≡◌, suc, ◌*◌, ◌/◌, ◌≤◌, length};
 ghost use Rattle.base.specs.Texts.{max_words};
 ghost use Rattle.dense.specs.Code.{Closing};
@@ -17,7 +19,7 @@ use index::Shape;
 // The sizes of an index: N, the number of its nodes; L, the number of its bytes; and how many
 // superblock rows and block rows it has, of 256 counters each.
 #[repr(C)]
-#[derive(Drop)]
+#[derive(Clone, Copy)]
 pub struct IndexSizes {
     pub nodes: usize,
     pub bytes: usize,
@@ -27,7 +29,7 @@ pub struct IndexSizes {
 
 // What measuring returns: its answer, and the sizes, four zeros where it is refused.
 #[repr(C)]
-#[derive(Drop)]
+#[derive(Clone, Copy)]
 pub struct Measured {
     pub answer: Answer,
     pub sizes: IndexSizes,
@@ -45,7 +47,7 @@ pub fn same_sizes(given: IndexSizes, own: IndexSizes) -> bool
 
 // What one pass over the ranks of a text gives: the first place whose rank is not below the
 // vocabulary's size, or the number of words, and then the number of bytes of the stream.
-#[derive(Drop)]
+#[derive(Clone, Copy)]
 struct RankPass {
     place: usize,
     bytes: usize,

@@ -1,6 +1,8 @@
 // Whether the bytes of each node may stand in it as often as they do: a continuing byte as often as
 // its child has bytes, a closing one where it names a rank below V. Inner functions: their callers
 // have checked the sizes and the counters.
+#![tactic(auto)]
+
 ghost use Rattle.std.specs.Prelude.{◌≡◌, ◌-◌, ◌≤◌, ◌<◌, length, take, drop};
 ghost use Rattle.base.specs.Lists.{total};
 ghost use Rattle.dense.specs.Code.{Closing};

@@ -1,5 +1,7 @@
 // The lines of the listing of a stream's nodes, each written from a position of a slice on: the
 // position after it is returned. No function here is an entry: each requires that the slice has room.
+#![tactic(auto)]
+
 ghost use Rattle.std.specs.Prelude.{◌+◌, ◌≤◌, length};
 ghost use Rattle.base.specs.Lists.{total, segments};
 ghost use Rattle.formatting.specs.Writing.{Wrote};

@@ -2,6 +2,8 @@
 //
 // The entry is `write_listing`. The other functions require what their callers have tested and are
 // no entries.
+#![tactic(auto)]
+
 
 ghost use Rattle.std.specs.Prelude.{◌≡◌, ◌≤◌, length};
 ghost use Rattle.formatting.specs.Writing.{Wrote};

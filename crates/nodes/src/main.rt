@@ -1,5 +1,7 @@
 // Reads a stream of the published code from standard input and prints its nodes, or the refusal.
 // Of a stream that is too long one byte past the limit is read, which is enough to refuse it.
+#![tactic(auto)]
+
 use libc::{STDIN_FILENO, STDOUT_FILENO};
 
 fn main() {

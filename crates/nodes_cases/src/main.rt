@@ -1,5 +1,7 @@
 // Lists streams at each limit and one past it. A case is a line with its name and the whole listing;
 // of the longest listing its first line, its length, its Adler-32 checksum and its end are printed.
+#![tactic(auto)]
+
 
 ghost use Rattle.std.specs.Prelude.{◌≤◌, length};
 

@@ -3,6 +3,8 @@
 //
 // No function of this crate is an entry: `fill_page` and `write_page` require that the four slices
 // have passed the check, and `starts` is the table that `starts::node_starts` fills.
+#![tactic(auto)]
+
 ghost use Rattle.std.specs.Prelude.{◌≡◌, true, false, ◌≤◌, length};
 ghost use Rattle.base.specs.Lists.{Below};
 ghost use Rattle.base.specs.Texts.{max_words, max_phrase};
@@ -21,7 +23,7 @@ use matching::Sought;
 use tree::Place;
 
 // What a page has written: the number of hits, whether more follow, and the state after it.
-#[derive(Drop)]
+#[derive(Clone, Copy)]
 pub struct Written {
     pub count: usize,
     pub more: bool,

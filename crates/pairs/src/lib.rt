@@ -1,7 +1,10 @@
 // Pairs of bytes: the first index at which one byte stands in one slice and another byte in a second
 // slice of the same length. A search of a phrase looks for hits by them: a byte at a position and
 // another at a fixed distance from it.
-ghost use Rattle.std.specs.Prelude.{◌≡◌, true, ◌≤◌, length};
+#![tactic(auto)]
+
+ghost use Rattle.std.specs.Prelude.{◌≡◌, ◌≤◌, length};
+ghost use Rattle.base.specs.Lists.{nth as nth_of};
 ghost use Rattle.pairs.specs.Pairs.{first_pair};
 
 // The first index at which x stands in one of two short slices and y in the other, their length where
@@ -33,7 +36,7 @@ fn first_few(here: &[u8], there: &[u8], x: u8, y: u8) -> u8
 
 // The first index at which x stands in one of two slices and y in the other, their length where there
 // is none: in pieces of 128 bytes, and what is left after them.
-fn first_pair(here: &[u8], there: &[u8], x: u8, y: u8) -> usize
+pub fn next_pair(here: &[u8], there: &[u8], x: u8, y: u8) -> usize
     requires { length here.now ≡ length there.now }
     ensures { result ≡ first_pair x y here.now there.now }
 {
@@ -49,15 +52,9 @@ fn first_pair(here: &[u8], there: &[u8], x: u8, y: u8) -> usize
     i + first_few(&here[i..], &there[i..], x, y) as usize
 }
 
-// The first index at which x stands in one of two slices and y in the other, their length where there
-// is none. Where the two slices are said to be the same, and the two bytes, a pair is an occurrence of
-// the byte, and no byte past it is read.
-pub fn next_pair(here: &[u8], there: &[u8], x: u8, y: u8, same: bool) -> usize
-    requires { (length here.now ≡ length there.now) × (same ≡ true → (here.now ≡ there.now) × (x ≡ y)) }
-    ensures { result ≡ first_pair x y here.now there.now }
+// The position of the first occurrence of a byte in a part, the part's length where there is none.
+pub fn next_of(part: &[u8], byte: u8) -> usize
+    ensures { result ≡ nth_of byte 0 part.now }
 {
-    if same {
-        return block_scan::next_of(here, x);
-    }
-    first_pair(here, there, x, y)
+    next_pair(part, part, byte, byte)
 }

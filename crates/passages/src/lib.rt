@@ -2,6 +2,8 @@
 //
 // No function of this crate is an entry: it requires that the four slices have passed the check, and
 // `starts` is the table that `starts::node_starts` fills.
+#![tactic(auto)]
+
 ghost use Rattle.std.specs.Prelude.{◌≡◌, ◌+◌, ◌≤◌, length, take, drop};
 ghost use Rattle.index.specs.Arrays.{Arrays, arrays, text_in};
 ghost use Rattle.words.specs.Ready.{Ready};

@@ -1,6 +1,8 @@
 // The tests of a phrase that is a part of the lent words, which every call about a phrase makes,
 // whether it has an absent word, and the count of a phrase of no words, which needs nothing else. No
 // function of this crate is an entry.
+#![tactic(auto)]
+
 ghost use Rattle.std.specs.Prelude.{ℕ, ◌+◌, ◌≤◌, ◌≡◌, List, eqb, ltb, length};
 ghost use Rattle.base.specs.Lists.{first_where};
 ghost use Rattle.base.specs.Texts.{max_words};

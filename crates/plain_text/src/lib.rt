@@ -1,5 +1,7 @@
 // Plain text through a word list: the entry `read_text`, and the same with any table that keeps the
 // rule.
+#![tactic(auto)]
+
 ghost use Rattle.std.specs.Prelude.{◌≡◌, true, length};
 ghost use Rattle.lexicon.specs.Letters.{letters as lettersOf, is_table};
 ghost use Rattle.lexicon.specs.Reading.{text_words, read_text_answer, read_text_exit};

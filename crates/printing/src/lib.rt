@@ -1,4 +1,6 @@
 // What the programs print of answers, bytes, ranks and cases, to standard output.
+#![tactic(auto)]
+
 use base::Answer;
 use libc::STDOUT_FILENO;
 

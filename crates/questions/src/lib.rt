@@ -1,11 +1,13 @@
 // Questions about the text of an index: the question record, with a maker a kind. What is answered,
 // and the passage that is read, is defined in `specs/`; the laws of the answers are in `proofs/`.
+#![tactic(auto)]
+
 ghost use Rattle.std.specs.Prelude.{◌≡◌};
 ghost use Rattle.questions.specs.Makers.{asks_word_at, asks_occurrences_below, asks_place_of, asks_neighbours, asks_phrase};
 
 // A question: its kind, ranks w and v, offset d, number p, and a part of the lent phrase words.
 #[repr(C)]
-#[derive(Drop)]
+#[derive(Clone, Copy)]
 pub struct Question {
     pub kind: u32,
     pub w: u32,

@@ -1,4 +1,6 @@
 // The ranks of the words of a text, all of them in a word list, looked up part by part.
+#![tactic(auto)]
+
 ghost use Rattle.std.specs.Prelude.{◌≡◌, true, cond, ◌+◌, ◌-◌, ◌≤◌, ◌<◌, ltb, length, set};
 ghost use Rattle.base.specs.Answers.{front};
 ghost use Rattle.lexicon.specs.Letters.{is_table};

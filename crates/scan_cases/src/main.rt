@@ -9,6 +9,8 @@
 //     each X                 the same for each J from 0 to one more than there are
 //
 // A block has at most 2,048 bytes; what goes past them is left out.
+#![tactic(auto)]
+
 use block_scan::Where;
 use given::Numbers;
 use libc::STDIN_FILENO;
@@ -17,7 +19,7 @@ use libc::STDIN_FILENO;
 const MOST_BYTES: usize = 2048;
 
 // The block that is scanned: bytes, and how many there are.
-#[derive(Drop)]
+#[derive(Clone, Copy)]
 struct Block {
     bytes: [u8; MOST_BYTES],
     size: usize,

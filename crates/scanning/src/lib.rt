@@ -1,5 +1,7 @@
 // Going through a text byte by byte: where its words begin and end, how many there are, and whether two
 // are spelled alike; with every letter table that keeps the rules.
+#![tactic(auto)]
+
 ghost use Rattle.std.specs.Prelude.{◌≡◌, true, ◌+◌, ◌≤◌, length, drop};
 ghost use Rattle.base.specs.Lists.{same};
 ghost use Rattle.lexicon.specs.Letters.{is_table};
@@ -36,7 +38,7 @@ pub fn word_start(table: &[u8], text: &[u8], at: usize) -> usize
 }
 
 // Where a word ends, and its bucket.
-#[derive(Drop)]
+#[derive(Clone, Copy)]
 pub struct Scan {
     pub end: usize,
     pub bucket: usize,

@@ -1,5 +1,7 @@
 // What a sheet of questions is answered by: its tests, and one question at a time. No function here
 // is an entry.
+#![tactic(auto)]
+
 ghost use Rattle.std.specs.Prelude.{◌≡◌, true, ◌+◌, ◌*◌, ◌<◌, ◌≤◌, length};
 ghost use Rattle.base.specs.Answers.{written};
 ghost use Rattle.dense.specs.Code.{Closing};

@@ -1,5 +1,7 @@
 // Indexes of small texts, held by value, for the programs that try the entries: each is built once
 // and is then checked, asked and listed, whole or damaged.
+#![tactic(auto)]
+
 ghost use Rattle.std.specs.Prelude.{◌≡◌, length};
 ghost use Rattle.index.specs.Arrays.{shape_of, text_in};
 ghost use Rattle.index.specs.Entries.{check_answer};
@@ -16,7 +18,7 @@ use listing::{Listing, Page};
 use questions::Question;
 
 // How many elements of each array are lent.
-#[derive(Drop)]
+#[derive(Clone, Copy)]
 pub struct LentSizes {
     pub nodes: usize,
     pub bytes: usize,
@@ -27,7 +29,7 @@ pub struct LentSizes {
 // An index as it is lent to a call: the four arrays, how many elements from the front of each, V, B
 // and b; beside it the answer of building it. There is room for one node more than the largest
 // vocabulary has, 20 bytes, and ten rows of counters of each kind.
-#[derive(Drop)]
+#[derive(Clone, Copy)]
 pub struct SmallIndex {
     pub lengths: [u32; 16514],
     pub bytes: [u8; 20],

@@ -1,5 +1,7 @@
 // Where the nodes of an index start in its node bytes: a table that the callers of the reading
 // functions fill once, after the check.
+#![tactic(auto)]
+
 ghost use Rattle.std.specs.Prelude.{◌≤◌, ◌<◌, length};
 ghost use Rattle.base.specs.Lists.{total};
 ghost use Rattle.directory.specs.Counters.{max_bytes};

@@ -1,5 +1,7 @@
 // Reads a stream of the published code from standard input, at most 8,192 bytes, and prints the
 // number of its words and their ranks, or the refusal.
+#![tactic(auto)]
+
 use libc::STDIN_FILENO;
 
 fn main() {

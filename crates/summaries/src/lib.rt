@@ -1,4 +1,6 @@
 // A summary beside the index: how often a phrase stands in each document.
+#![tactic(auto)]
+
 ghost use Rattle.std.specs.Prelude.{◌≡◌, true, ◌≤◌, length};
 ghost use Rattle.base.specs.Lists.{Below};
 ghost use Rattle.base.specs.Texts.{max_phrase};

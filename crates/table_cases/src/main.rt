@@ -15,6 +15,8 @@
 //                                so many bytes and ranks
 //
 // Slices that are filled held nothing but 9 before, and have at most 20 elements.
+#![tactic(auto)]
+
 use given::Numbers;
 use libc::STDIN_FILENO;
 use small_indexes::front_bytes;
@@ -23,7 +25,7 @@ use small_indexes::front_bytes;
 const MOST_ENTRIES: usize = 257;
 
 // The table that calls are lent, and the word list.
-#[derive(Drop)]
+#[derive(Clone, Copy)]
 struct State {
     table: [u8; MOST_ENTRIES],
     list: [u8; 64],

@@ -1,5 +1,7 @@
 // The bytes of a block counted, 256 counters at a time, and how many rows a table of counters has.
 // Inner functions: their callers have checked the sizes.
+#![tactic(auto)]
+
 ghost use Rattle.std.specs.Prelude.{◌≡◌, ◌+◌, ◌*◌, ◌/◌, ◌≤◌, suc, length};
 ghost use Rattle.base.specs.Lists.{Below};
 ghost use Rattle.base.specs.Texts.{max_superblock};

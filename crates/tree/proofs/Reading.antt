@@ -86,13 +86,13 @@ module _ (s : ℕ) (within : Closing s) (v : ℕ) (fits : v ≤ max_vocabulary s
   nodes_good = record {
     number = length_nodes;
     counts = λ k e h l. rw (nodes_at k, nodes_at (child s k e)) (sym (child_length_lem s k e t l));
-    bytes = λ k h. rw (nodes_at k) (all_map _ _ first_byte (λ w n. first_byte w n.word) (reach s k t) (names_below k));
+    bytes = λ k h. rw (nodes_at k) (all_map _ _ first_byte (λ w n. first_byte_lem w n.word) (reach s k t) (names_below k));
     named = λ k h. rw (nodes_at k) (all_map _ _ first_byte (λ w n. last_byte k w n.word n.rank) (reach s k t) (names_below k));
   }
     where
-      first_byte : (w : List ℕ) → Word s w → first_byte w < 256
-      first_byte w (closing b h l) = l
-      first_byte w (continued b h u) = omega arith
+      first_byte_lem : (w : List ℕ) → Word s w → first_byte w < 256
+      first_byte_lem w (closing b h l) = l
+      first_byte_lem w (continued b h u) = omega arith
 
       last_byte : (k : ℕ) (w : List ℕ) → Word s w → rank_from s k w < v → continuing s ≤ first_byte w → rank_in s k (first_byte w) < v
       last_byte k w (closing b h l) r c = r

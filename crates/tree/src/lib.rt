@@ -1,15 +1,17 @@
 // The byte tree of paper 01: the numbers of its nodes, over the number s of closing byte values, and
 // places of the text as positions in the root. Its laws are in `proofs/`, stated in `specs/Theorems`.
+#![tactic(auto)]
+
 ghost use Rattle.std.specs.Prelude.{◌≡◌, ◌≤◌, ◌<◌};
 ghost use Rattle.dense.specs.Code.{Closing, max_vocabulary};
 ghost use Rattle.tree.specs.Nodes.{child, parent, digit, node_count, max_nodes, node_of, closing_byte, root_position, root_place};
 
 // A place counts words of the text.
-#[derive(Drop)]
+#[derive(Clone, Copy)]
 pub struct Place(pub usize);
 
 // A position counts bytes inside one node.
-#[derive(Drop)]
+#[derive(Clone, Copy)]
 pub struct Position(pub usize);
 
 // The position in the root of a place.

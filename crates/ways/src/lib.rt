@@ -5,6 +5,8 @@
 // No function of this crate is an entry: the public ones require that the four slices have passed
 // the check and that `starts` is a table that `starts::node_starts` has filled, the others what their
 // callers have shown. What they answer is defined over the text of the slices.
+#![tactic(auto)]
+
 ghost use Rattle.std.specs.Prelude.{◌≡◌, ◌+◌, ◌≤◌, ◌<◌, length, get_or, take};
 ghost use Rattle.base.specs.Lists.{count_of, nth};
 ghost use Rattle.index.specs.Arrays.{Arrays, arrays, text_in};
@@ -20,7 +22,7 @@ use words::Step;
 
 // The way of a rank from the node where its codeword ends up to the root: as many steps as its
 // codeword has bytes.
-#[derive(Drop)]
+#[derive(Clone, Copy)]
 pub struct Way {
     pub length: usize,
     pub first: Step,
@@ -80,7 +82,7 @@ pub fn way_of(
 
 // The superblock rows near which the steps of a way seek; they decide how long that takes, and
 // nothing else.
-#[derive(Drop)]
+#[derive(Clone, Copy)]
 pub struct Near {
     pub first: usize,
     pub second: usize,
@@ -98,7 +100,7 @@ pub fn nowhere(superblocks: &[u32]) -> Near {
 }
 
 // What a step finds: a position in its node, and the superblock row in which it lies.
-#[derive(Drop)]
+#[derive(Clone, Copy)]
 struct Located {
     at: Position,
     superblock: usize,
@@ -134,7 +136,7 @@ fn nth_in_node(
 }
 
 // A place at which a rank stands, and the rows near which the one after it is sought.
-#[derive(Drop)]
+#[derive(Clone, Copy)]
 pub struct Next {
     pub place: Place,
     pub near: Near,
@@ -299,7 +301,7 @@ fn piece_in_root(
 
 // A walk along the occurrences of a rank: how many are passed, the position in the node where its
 // codeword ends before which they stand, and the rows near which the next one is sought.
-#[derive(Drop)]
+#[derive(Clone, Copy)]
 pub struct Track {
     pub ordinal: usize,
     pub at: Position,
@@ -343,7 +345,7 @@ pub fn track_from(
 
 // The part of the root, from one place on and below another, in which a rank stands next, and the
 // walk past that occurrence.
-#[derive(Drop)]
+#[derive(Clone, Copy)]
 pub struct Stretch {
     pub from: usize,
     pub to: usize,

@@ -1,5 +1,7 @@
 // The places of the words of a text: where each word begins, the place at which it appears first, and
 // how often it stands; with every letter table that keeps the rules.
+#![tactic(auto)]
+
 ghost use Rattle.std.specs.Prelude.{◌≡◌, true, cond, suc, ◌-◌, ◌≤◌, ◌<◌, ltb, length, get_or, set, take};
 ghost use Rattle.base.specs.Lists.{Below, filter_by};
 ghost use Rattle.lexicon.specs.Letters.{is_table};

@@ -5,6 +5,8 @@
 // No function of this crate is an entry: the public ones require that the four slices have passed
 // the check and that `starts` is a table that `starts::node_starts` has filled, the others what their
 // callers have shown. What they answer is defined over the text of the slices.
+#![tactic(auto)]
+
 ghost use Rattle.std.specs.Prelude.{◌≡◌, ◌≤◌, ◌<◌, length, get_or, take};
 ghost use Rattle.base.specs.Lists.{count_of};
 ghost use Rattle.tree.specs.Nodes.{position, node_of, closing_byte};
@@ -35,7 +37,7 @@ fn byte_at(bytes: &[u8], starts: &[u32], node: usize, at: Position) -> u8
 
 // A step of the way from a word up to the root: a byte is looked for in a node, and stands so often
 // before it.
-#[derive(Drop)]
+#[derive(Clone, Copy)]
 pub struct Step {
     pub node: usize,
     pub byte: u8,
@@ -173,7 +175,7 @@ pub fn word_at(
 
 // How often a rank stands below a place, and the position of the place in the node where its codeword
 // ends.
-#[derive(Drop)]
+#[derive(Clone, Copy)]
 pub struct Below {
     pub at: Position,
     pub count: usize,

@@ -1,5 +1,7 @@
 // The index of a text written to the fronts of lent slices, and whether these are long enough.
 // Inner functions: their callers have tested the text and the sizes.
+#![tactic(auto)]
+
 ghost use Rattle.std.specs.Prelude.{◌≡◌, ◌≤◌, length};
 ghost use Rattle.dense.specs.Code.{Closing};
 ghost use Rattle.dense.specs.Streams.{stream};

@@ -1,46 +1,72 @@
--- `read_piece` meets its contract. Assumes nothing.
-use Prim.Native.Nat.{ℕ, ◌+◌, ◌-◌}
-use mathlib.Core.Path.{◌≡◌, ap}
+-- `read_piece` meets its contract. The loop's invariant: found is the number of x among the bytes of the piece that are read. Assumes nothing.
+use Prim.Native.Nat.{◌+◌, ◌≤◌, ◌-◌}
+use mathlib.Core.Path.{◌≡◌}
 use native.Mathlib.Omega.{arith}
 use borrow.Author.Rules.{rules}
-use lib.ListN.{length, take}
-use lib.Seq.{take_all}
+use lib.ListN.{take}
 use Rattle.base.specs.Lists.{count_of}
-use Rattle.base.proofs.Counts.{count_part}
+use Rattle.base.proofs.Counts.{nth_most}
+use Rattle.block_scan.proofs.Looks.{looked_met}
 use Rattle.block_scan.proofs.read_piece.Statement.{statement}
 use Rattle.block_scan.proofs.read_piece.Tie as tie
 
-sub-count-few : tie.Need-overflow-sub-count-few
-sub-count-few c = search rules
+abbrev invariant-loop : tie.invariant-loop-i
+invariant-loop block from width byte j found₀ read₀ i₀ found read i =
+    (read ≡ from + i) × (i ≤ width) × (count_of byte (take from block) + found ≡ count_of byte (take read block)) × (found ≤ i)
 
-part-count-few-start : tie.Need-slice-bounds-count-few-start
-part-count-few-start c = search rules
+abbrev decreases-loop : tie.decreases-loop-i
+decreases-loop block from width byte j found₀ read₀ i₀ found read i = width - i
 
-part-count-few-end : tie.Need-slice-bounds-count-few-end
-part-count-few-end c = search rules
+loop-holds : tie.Need-loop-i-init invariant-loop decreases-loop
+loop-holds c = search rules
 
-count-few-requires : tie.Need-count-few-requires
-count-few-requires c κs = search rules
-
-cast-found : tie.Need-overflow-cast-found
-cast-found c = search rules
-
-returns : tie.Need-returns
-returns c =
+read-byte-requires : tie.Need-read_byte-here-requires invariant-loop decreases-loop
+read-byte-requires c κs =
     let s = c.before.before.before in
     let a = s.args in
-    let n : ℕ = length a.front.now - a.from in
-    let whole : count_of a.byte (take (a.from + n) a.front.now) ≡ count_of a.byte a.front.now =
-    ap (count_of a.byte) (take_all (a.from + n) a.front.now (omega arith)) in
-    (omega arith, omega (arith, c.count-few.ensures, count_part a.byte a.from n a.front.now))
+    (omega (arith, s.requires.1, nth_most a.byte a.j a.block.now), omega (arith, s.requires.1))
 
-pub read-piece-spec : {M : Type 1} → statement M
-read-piece-spec =
+add-found : tie.Need-overflow_add-found invariant-loop decreases-loop
+add-found c = search rules
+
+add-i : tie.Need-overflow_add-i invariant-loop decreases-loop
+add-i c = search rules
+
+loop-less : tie.Need-loop-i-smaller-then-here invariant-loop decreases-loop
+loop-less c = search rules
+
+loop-again : tie.Need-loop-i-preserved-then-here invariant-loop decreases-loop
+loop-again c =
+    let l = c.before.before.before.loop-i in
+    let a = c.before.before.before.before.before.args in
+    let r = c.before.read_byte-here in
+    (omega arith, omega arith, omega (arith, (looked_met a.byte l.read a.block.now r.result r.ensures.1 c.if-here.true).1), omega arith)
+
+loop-less-2 : tie.Need-loop-i-smaller invariant-loop decreases-loop
+loop-less-2 c = search rules
+
+loop-again-2 : tie.Need-loop-i-preserved invariant-loop decreases-loop
+loop-again-2 c = (omega arith, omega arith, omega (arith, c.before.read_byte-here.ensures.1.clear c.if-here.false), omega arith)
+
+cast-t11 : tie.Need-overflow_cast-result invariant-loop decreases-loop
+cast-t11 c = search rules
+
+returns : tie.Need-returns invariant-loop decreases-loop
+returns c = (omega arith, c.before.loop-i.invariant.2)
+
+pub read_piece_spec : {M : Type 1} → statement M
+read_piece_spec =
     tie.close
     (tie.spec
-    sub-count-few
-    part-count-few-start
-    part-count-few-end
-    count-few-requires
-    cast-found
+    invariant-loop
+    decreases-loop
+    loop-holds
+    read-byte-requires
+    add-i
+    add-found
+    loop-less
+    loop-again
+    loop-less-2
+    loop-again-2
+    cast-t11
     returns)

@@ -12,47 +12,44 @@ use Rattle.dense.proofs.Codewords.{code_length_most}
 use Rattle.dense.proofs.stream_length.Statement.{statement}
 use Rattle.dense.proofs.stream_length.Tie as tie
 
-abbrev invariant-loop : tie.invariant-loop
+abbrev invariant-loop : tie.invariant-loop-place
 invariant-loop s text bytes₀ place₀ bytes place = (place ≤ length text) × (bytes ≡ length (stream s (take place text)))
 
-abbrev decreases-loop : tie.decreases-loop
+abbrev decreases-loop : tie.decreases-loop-place
 decreases-loop s text bytes₀ place₀ bytes place = length text - place
 
-loop-holds : tie.Need-loop-init invariant-loop decreases-loop
-loop-holds c = (omega arith, sym (ap length (stream_none c.before.args.s)))
+loop-holds : tie.Need-loop-place-init invariant-loop decreases-loop
+loop-holds c = (omega arith, sym (ap length (stream_none c.args.s)))
 
-mul-code-length : tie.Need-overflow-mul-code-length invariant-loop decreases-loop
+mul-code-length : tie.Need-offset_bounds-text-place invariant-loop decreases-loop
 mul-code-length c = search rules
 
-shared-slice-read-code-length : tie.Need-shared-slice-read-code-length invariant-loop decreases-loop
+shared-slice-read-code-length : tie.Need-bounds-text-place invariant-loop decreases-loop
 shared-slice-read-code-length c = search rules
 
-cast-code-length : tie.Need-overflow-cast-code-length invariant-loop decreases-loop
-cast-code-length c = omega (arith, c.shared-slice-known2.given c.before.before.loop.place)
+cast-code-length : tie.Need-overflow_cast-text invariant-loop decreases-loop
+cast-code-length c = omega (arith, c.shared_slice_known-in-loop-place-1.given c.loop-place.place)
 
-code-length-requires : tie.Need-code-length-requires invariant-loop decreases-loop
+code-length-requires : tie.Need-code_length-bytes-requires invariant-loop decreases-loop
 code-length-requires c κs = search rules
 
-add-bytes : tie.Need-overflow-add-bytes invariant-loop decreases-loop
-add-bytes c = let start = c.before.before.before.before.before in
-    omega (arith, stream_take_most start.args.s start.args.text.now c.before.before.before.loop.place, c.code-length.ensures, code_length_most start.args.s (get_or start.args.text.now c.before.before.before.loop.place 0), start.requires.1)
+add-bytes : tie.Need-overflow_add-bytes invariant-loop decreases-loop
+add-bytes c = omega (arith, stream_take_most c.args.s c.args.text.now c.loop-place.place, c.code_length-bytes.ensures, code_length_most c.args.s (get_or c.args.text.now c.loop-place.place 0), c.requires.1)
 
-add-place : tie.Need-overflow-add-place invariant-loop decreases-loop
+add-place : tie.Need-overflow_add-place invariant-loop decreases-loop
 add-place c = search rules
 
-loop-less : tie.Need-loop-smaller invariant-loop decreases-loop
+loop-less : tie.Need-loop-place-smaller invariant-loop decreases-loop
 loop-less c = search rules
 
-loop-again : tie.Need-loop-preserved invariant-loop decreases-loop
-loop-again c = let start = c.before.before.before.before.before in
-    (omega arith, omega (arith, c.code-length.ensures, stream_length_more start.args.s start.args.text.now c.before.before.before.loop.place c.before.before.loop-test.true))
+loop-again : tie.Need-loop-place-preserved invariant-loop decreases-loop
+loop-again c = (omega arith, omega (arith, c.code_length-bytes.ensures, stream_length_more c.args.s c.args.text.now c.loop-place.place c.loop-place-test.true))
 
 returns : tie.Need-returns invariant-loop decreases-loop
-returns c = let start = c.before.before.before in
-    c.before.loop.invariant.1 ∙ ap (λ (u : List ℕ). length (stream start.args.s u)) (take_all c.before.loop.place start.args.text.now (omega arith))
+returns c = c.loop-place.invariant.1 ∙ ap (λ (u : List ℕ). length (stream c.args.s u)) (take_all c.loop-place.place c.args.text.now (omega arith))
 
-pub stream-length-spec : {M : Type 1} → statement M
-stream-length-spec =
+pub stream_length_spec : {M : Type 1} → statement M
+stream_length_spec =
     tie.close
     (tie.spec
     invariant-loop

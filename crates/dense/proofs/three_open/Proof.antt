@@ -12,68 +12,67 @@ use Rattle.dense.proofs.Reading.{or_true, or_false, three_here, three_later, thr
 use Rattle.dense.proofs.three_open.Statement.{statement}
 use Rattle.dense.proofs.three_open.Tie as tie
 
-abbrev invariant-loop : tie.invariant-loop
+abbrev invariant-loop : tie.invariant-loop-at
 invariant-loop s stream least found₀ at₀ found at = (at ≤ length stream) × (three_open s stream ≡ cond found true (three_open s (drop at stream)))
 
-abbrev decreases-loop : tie.decreases-loop
+abbrev decreases-loop : tie.decreases-loop-at
 decreases-loop s stream least found₀ at₀ found at = length stream - at
 
-sub-least : tie.Need-overflow-sub-least invariant-loop decreases-loop
+sub-least : tie.Need-overflow_sub-least invariant-loop decreases-loop
 sub-least c = search rules
 
-cast-least : tie.Need-overflow-cast-least invariant-loop decreases-loop
+cast-least : tie.Need-overflow_cast-least invariant-loop decreases-loop
 cast-least c = search rules
 
-loop-holds : tie.Need-loop-init invariant-loop decreases-loop
+loop-holds : tie.Need-loop-at-init invariant-loop decreases-loop
 loop-holds c = search rules
 
-add-loop : tie.Need-overflow-add-loop invariant-loop decreases-loop
+add-loop : tie.Need-overflow_add-at invariant-loop decreases-loop
 add-loop c = search rules
 
-shared-slice-read-greater : tie.Need-shared-slice-read-greater invariant-loop decreases-loop
+shared-slice-read-greater : tie.Need-bounds-stream-at invariant-loop decreases-loop
 shared-slice-read-greater c = search rules
 
-add-greater : tie.Need-overflow-add-greater invariant-loop decreases-loop
+add-greater : tie.Need-overflow_add-at-in-loop-at invariant-loop decreases-loop
 add-greater c = search rules
 
-shared-slice-read-greater-2 : tie.Need-shared-slice-read-greater-2 invariant-loop decreases-loop
+shared-slice-read-greater-2 : tie.Need-bounds-stream-at-in-loop-at invariant-loop decreases-loop
 shared-slice-read-greater-2 c = search rules
 
-add-greater-2 : tie.Need-overflow-add-greater-2 invariant-loop decreases-loop
+add-greater-2 : tie.Need-overflow_add-at-in-loop-at-2 invariant-loop decreases-loop
 add-greater-2 c = search rules
 
-shared-slice-read-greater-3 : tie.Need-shared-slice-read-greater-3 invariant-loop decreases-loop
+shared-slice-read-greater-3 : tie.Need-bounds-stream-at-in-loop-at-2 invariant-loop decreases-loop
 shared-slice-read-greater-3 c = search rules
 
 greater-requires : tie.Need-greater-requires invariant-loop decreases-loop
 greater-requires c κs = search rules
 
-greater-requires-2 : tie.Need-greater-requires-2 invariant-loop decreases-loop
+greater-requires-2 : tie.Need-greater-greatest-requires invariant-loop decreases-loop
 greater-requires-2 c κs = search rules
 
-add_at : tie.Need-overflow-add-at invariant-loop decreases-loop
+add_at : tie.Need-overflow_add-at-in-loop-at-3 invariant-loop decreases-loop
 add_at c = search rules
 
-loop-less : tie.Need-loop-smaller invariant-loop decreases-loop
+loop-less : tie.Need-loop-at-smaller invariant-loop decreases-loop
 loop-less c = search rules
 
-loop-again : tie.Need-loop-preserved invariant-loop decreases-loop
-loop-again c = let start = c.before.before.before.before.before.before.before.before.before in
-    let loop = c.before.before.before.before.before.before.before.loop in
-    let bytes = start.args.stream.now in
-    let h : loop.at + 2 < length bytes = c.before.before.before.before.before.before.loop-test.true in
-    let e : c.before.greater2.result ≡ max (get_or bytes loop.at 0) (max (get_or bytes (loop.at + 1) 0) (get_or bytes (loop.at + 2) 0)) =
-    c.before.greater2.ensures ∙ ap (max (get_or bytes loop.at 0)) c.before.before.greater.ensures in
+loop-again : tie.Need-loop-at-preserved invariant-loop decreases-loop
+loop-again c = let loop = c.loop-at in
+    let bytes = c.args.stream.now in
+    let h : loop.at + 2 < length bytes = c.loop-at-test.true in
+    let e : c.greater-greatest.result ≡ max (get_or bytes loop.at 0) (max (get_or bytes (loop.at + 1) 0) (get_or bytes (loop.at + 2) 0)) =
+    c.greater-greatest.ensures ∙ ap (max (get_or bytes loop.at 0)) c.greater.ensures in
     ⊎_elim
-    (λ w. (omega arith, rw w.1 (loop.invariant.1 ∙ ap (cond loop.found true) (three_here start.args.s bytes loop.at h (omega (arith, e, w.0.taken))) ∙ or_true loop.found)))
-    (λ w. (omega arith, rw w.1 (loop.invariant.1 ∙ ap (cond loop.found true) (three_later start.args.s bytes loop.at h (omega (arith, e, w.0.left))))))
-    c.if1.branch
+    (λ w. (omega arith, rw w.found-is (loop.invariant.1 ∙ ap (cond loop.found true) (three_here c.args.s bytes loop.at h (omega (arith, e, w.if-greatest-least.true))) ∙ or_true loop.found)))
+    (λ w. (omega arith, rw w.found-is (loop.invariant.1 ∙ ap (cond loop.found true) (three_later c.args.s bytes loop.at h (omega (arith, e, w.if-greatest-least.false))))))
+    c.if-greatest-least.branch-raw
 
 returns : tie.Need-returns invariant-loop decreases-loop
-returns c = sym (c.before.loop.invariant.1 ∙ ap (cond c.before.loop.found true) (three_end c.before.before.before.args.s c.before.before.before.args.stream.now c.before.loop.at c.loop-test.false) ∙ or_false c.before.loop.found)
+returns c = sym (c.loop-at.invariant.1 ∙ ap (cond c.loop-at.found true) (three_end c.args.s c.args.stream.now c.loop-at.at c.loop-at-test.false) ∙ or_false c.loop-at.found)
 
-pub three-open-spec : {M : Type 1} → statement M
-three-open-spec =
+pub three_open_spec : {M : Type 1} → statement M
+three_open_spec =
     tie.close
     (tie.spec
     invariant-loop

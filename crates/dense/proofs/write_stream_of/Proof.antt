@@ -14,111 +14,110 @@ use Rattle.dense.proofs.write_stream_of.Statement.{statement}
 use Rattle.dense.proofs.write_stream_of.Tie as tie
 
 -- past the tests of the vocabulary, it is within its limits
-vocabulary_inside : (c : tie.Else2) → outside 1 (max_vocabulary c.before.before.before.before.before.args.s) c.before.before.before.before.before.args.vocabulary ≡ false
+vocabulary_inside : (c : tie.Else-max_vocabulary-vocabulary) → outside 1 (max_vocabulary c.args.s) c.args.vocabulary ≡ false
 vocabulary_inside c =
-    let a = c.before.before.before.before.before.args in
-    inside_range 1 (max_vocabulary a.s) a.vocabulary c.before.before.if1.false (rw (← c.before.max-vocabulary.ensures) c.if2.false)
+    let a = c.args in
+    inside_range 1 (max_vocabulary a.s) a.vocabulary c.if-vocabulary-lt1.false (rw (← c.max_vocabulary.ensures) c.if-max_vocabulary-vocabulary.false)
 
 -- past the test of the ranks, they are below the vocabulary's size
-ranks_inside : (c : tie.Else4) → ranks_below c.before.before.before.before.before.before.before.before.args.vocabulary c.before.before.before.before.before.before.before.before.args.text.now ≡ true
+ranks_inside : (c : tie.Else-place-text) → ranks_below c.args.vocabulary c.args.text.now ≡ true
 ranks_inside c =
-    let a = c.before.before.before.before.before.before.before.before.args in
-    no_rank_outside a.vocabulary a.text.now (rw (← c.before.first-outside.ensures) c.if4.false)
+    let a = c.args in
+    no_rank_outside a.vocabulary a.text.now (rw (← c.first_outside-place.ensures) c.if-place-text.false)
 
 -- past all tests, the text can be written
-writable : (c : tie.Else5) → Writable c.before.before.before.before.before.before.before.before.before.before.args.s
-    c.before.before.before.before.before.before.before.before.before.before.args.vocabulary
-    c.before.before.before.before.before.before.before.before.before.before.args.text.now
-    c.before.before.before.before.before.before.before.before.before.before.args.stream.now
+writable : (c : tie.Else-stream-needed) → Writable c.args.s
+    c.args.vocabulary
+    c.args.text.now
+    c.args.stream.now
 writable c =
-    let a = c.before.before.before.before.before.before.before.before.before.before.args in
+    let a = c.args in
     record {
-      some_word = c.before.before.before.before.before.before.before.if1.false;
-      most_words = rw (← c.before.before.before.before.before.before.max-vocabulary.ensures) c.before.before.before.before.before.if2.false;
-      short = c.before.before.before.before.if3.false;
-      ranks = below_of_test a.vocabulary a.text.now (ranks_inside c.before.before);
-      room = rw (← c.before.stream-length.ensures) c.if5.false;
+      some_word = c.if-vocabulary-lt1.false;
+      most_words = rw (← c.max_vocabulary.ensures) c.if-max_vocabulary-vocabulary.false;
+      short = c.if-text-gt-MAX_WORDS.false;
+      ranks = below_of_test a.vocabulary a.text.now (ranks_inside (c.before.before));
+      room = rw (← c.stream_length-needed.ensures) c.if-stream-needed.false;
     }
 
 refused-requires : tie.Need-refused-requires
 refused-requires c κs = search rules
 
-returns : tie.Need-returns
-returns c = let a = c.before.before.before.before.args in
+returns : tie.Need-returns-then-vocabulary-lt1
+returns c = let a = c.args in
     write_refused_lem a.s a.vocabulary a.text.now a.stream.now 1 0 refl
-    (write_vocabulary a.s a.vocabulary a.text.now a.stream.now (below_range 1 (max_vocabulary a.s) a.vocabulary c.before.if1.true))
+    (write_vocabulary a.s a.vocabulary a.text.now a.stream.now (below_range 1 (max_vocabulary a.s) a.vocabulary c.if-vocabulary-lt1.true))
     c.refused.result c.refused.ensures
 
-max-vocabulary-requires : tie.Need-max-vocabulary-requires
+max-vocabulary-requires : tie.Need-max_vocabulary-requires
 max-vocabulary-requires c κs = search rules
 
-refused-requires-2 : tie.Need-refused-requires-2
+refused-requires-2 : tie.Need-refused-requires-then-max_vocabulary-vocabulary
 refused-requires-2 c κs = search rules
 
-returns-2 : tie.Need-returns-2
-returns-2 c = let a = c.before.before.before.before.before.before.args in
+returns-2 : tie.Need-returns-then-max_vocabulary-vocabulary
+returns-2 c = let a = c.args in
     write_refused_lem a.s a.vocabulary a.text.now a.stream.now 1 0 refl
     (write_vocabulary a.s a.vocabulary a.text.now a.stream.now
-    (above_range 1 (max_vocabulary a.s) a.vocabulary (omega (arith, c.before.if2.true, c.before.before.max-vocabulary.ensures))))
-    c.refused2.result c.refused2.ensures
+    (above_range 1 (max_vocabulary a.s) a.vocabulary (omega (arith, c.if-max_vocabulary-vocabulary.true, c.max_vocabulary.ensures))))
+    c.refused-then-max_vocabulary-vocabulary.result c.refused-then-max_vocabulary-vocabulary.ensures
 
-refused-requires-3 : tie.Need-refused-requires-3
+refused-requires-3 : tie.Need-refused-requires-then-text-gt-MAX_WORDS
 refused-requires-3 c κs = search rules
 
-returns-3 : tie.Need-returns-3
-returns-3 c = let a = c.before.before.before.before.before.before.before.args in
+returns-3 : tie.Need-returns-then-text-gt-MAX_WORDS
+returns-3 c = let a = c.args in
     write_refused_lem a.s a.vocabulary a.text.now a.stream.now 2 0 refl
-    (write_words_lem a.s a.vocabulary a.text.now a.stream.now (vocabulary_inside c.before.before) c.before.if3.true)
-    c.refused3.result c.refused3.ensures
+    (write_words_lem a.s a.vocabulary a.text.now a.stream.now (vocabulary_inside (c.before.before)) c.if-text-gt-MAX_WORDS.true)
+    c.refused-then-text-gt-MAX_WORDS.result c.refused-then-text-gt-MAX_WORDS.ensures
 
-first-outside-requires : tie.Need-first-outside-requires
+first-outside-requires : tie.Need-first_outside-place-requires
 first-outside-requires c κs = search rules
 
-refused-at-requires : tie.Need-refused-at-requires
+refused-at-requires : tie.Need-refused_at-requires
 refused-at-requires c κs = search rules
 
-returns-4 : tie.Need-returns-4
-returns-4 c = let a = c.before.before.before.before.before.before.before.before.before.args in
-    let place = c.before.before.first-outside in
+returns-4 : tie.Need-returns-then-place-text
+returns-4 c = let a = c.args in
+    let place = c.first_outside-place in
     write_refused_lem a.s a.vocabulary a.text.now a.stream.now 4 place.result refl
-    (write_rank a.s a.vocabulary a.text.now a.stream.now (vocabulary_inside c.before.before.before.before) c.before.before.before.if3.false
-    (rank_outside a.vocabulary a.text.now (rw (← place.ensures) c.before.if4.true))
+    (write_rank a.s a.vocabulary a.text.now a.stream.now (vocabulary_inside (c.before.before.before.before)) c.if-text-gt-MAX_WORDS.false
+    (rank_outside a.vocabulary a.text.now (rw (← place.ensures) c.if-place-text.true))
     ∙ ap (refused_at 4) (sym place.ensures))
-    c.refused-at.result c.refused-at.ensures
+    c.refused_at.result c.refused_at.ensures
 
-stream-length-requires : tie.Need-stream-length-requires
+stream-length-requires : tie.Need-stream_length-needed-requires
 stream-length-requires c κs = search rules
 
-refused-requires-4 : tie.Need-refused-requires-4
+refused-requires-4 : tie.Need-refused-requires-then-stream-needed
 refused-requires-4 c κs = search rules
 
-returns-5 : tie.Need-returns-5
-returns-5 c = let a = c.before.before.before.before.before.before.before.before.before.before.before.args in
+returns-5 : tie.Need-returns-then-stream-needed
+returns-5 c = let a = c.args in
     write_refused_lem a.s a.vocabulary a.text.now a.stream.now 5 0 refl
-    (write_short a.s a.vocabulary a.text.now a.stream.now (vocabulary_inside c.before.before.before.before.before.before)
-    c.before.before.before.before.before.if3.false (ranks_inside c.before.before.before) (rw (← c.before.before.stream-length.ensures) c.before.if5.true))
-    c.refused4.result c.refused4.ensures
+    (write_short a.s a.vocabulary a.text.now a.stream.now (vocabulary_inside (c.before.before.before.before.before.before))
+    c.if-text-gt-MAX_WORDS.false (ranks_inside (c.before.before.before)) (rw (← c.stream_length-needed.ensures) c.if-stream-needed.true))
+    c.refused-then-stream-needed.result c.refused-then-stream-needed.ensures
 
-write-text-requires : tie.Need-write-text-requires
-write-text-requires c κs = let w = writable c.before in
-    let start = c.before.before.before.before.before.before.before.before.before.before.before in
-    (start.requires, below_weaken start.args.vocabulary (max_vocabulary start.args.s) start.args.text.now w.most_words w.ranks, w.room)
+write-text-requires : tie.Need-write_text-requires
+write-text-requires c κs = let w = writable (c.before) in
+    (c.requires, below_weaken c.args.vocabulary (max_vocabulary c.args.s) c.args.text.now w.most_words w.ranks, w.room)
 
 accepted-requires : tie.Need-accepted-requires
 accepted-requires c κs = search rules
 
-same_length : tie.Need-same-length
+same_length : tie.Need-shape_of-stream
 same_length c = search rules
 
-returns-6 : tie.Need-returns-6
-returns-6 c = let a = c.before.before.before.before.before.before.before.before.before.before.before.before.before.before.before.args in
-    write_accepted a.s a.vocabulary a.text.now a.stream.now (writable c.before.before.before.before.before)
-    c.accepted.result c.before.before.before.write-text.new.1.1.0
-    (c.accepted.ensures ∙ ap accepted c.before.before.before.before.before.before.stream-length.ensures)
-    c.before.before.before.write-text.ensures
+returns-6 : tie.Need-returns
+returns-6 c = let a = c.args in
+    write_accepted a.s a.vocabulary a.text.now a.stream.now (writable (c.before.before.before.before.before))
+    c.accepted.result c.write_text.new.stream
+    (c.accepted.ensures ∙ ap accepted c.stream_length-needed.ensures)
+    c.write_text.ensures
 
-pub write-stream-of-spec : {M : Type 1} → statement M
-write-stream-of-spec =
+pub write_stream_of_spec : {M : Type 1} → statement M
+write_stream_of_spec =
     tie.close
     (tie.spec
     refused-requires

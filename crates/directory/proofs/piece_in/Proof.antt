@@ -6,7 +6,7 @@ use borrow.Author.Rules.{rules}
 use lib.ListN.{length, take, drop, length-take}
 use Rattle.base.specs.Lists.{count_of}
 use Rattle.base.proofs.Counts.{count_part, nth_found}
-use Rattle.block_scan.proofs.BlockScans.{not_past}
+use Rattle.block_scan.proofs.BlockScans.{not-past-one}
 use Rattle.directory.proofs.Pieces.{nth_before}
 use Rattle.directory.proofs.piece_in.Statement.{statement}
 use Rattle.directory.proofs.piece_in.Tie as tie
@@ -55,7 +55,7 @@ returns : tie.Need-returns invariant-loop decreases-loop
 returns c =
     let a = c.before.before.before.before.before.before.args in
     let l = c.before.before.before.before.loop in (
-      not_past a.byte a.rest l.i a.part.now l.invariant.0 (omega (arith, l.invariant.1)),
+      not-past-one a.byte a.rest l.i a.part.now l.invariant.0 (omega (arith, l.invariant.1)),
       nth_before a.byte a.rest (l.i + 64) a.part.now (omega (arith, counted c.before, l.invariant.1)),
     )
 
@@ -70,7 +70,7 @@ returns-2 c =
     let s = c.before.before.before in
     let a = s.args in
     let l = c.before.loop in (
-      not_past a.byte a.rest l.i a.part.now l.invariant.0 (omega (arith, l.invariant.1)),
+      not-past-one a.byte a.rest l.i a.part.now l.invariant.0 (omega (arith, l.invariant.1)),
       omega (arith, (nth_found a.byte a.rest a.part.now s.requires).inside),
     )
 

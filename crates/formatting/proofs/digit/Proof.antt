@@ -5,24 +5,31 @@ use Rattle.base.proofs.Tests.{cond_below, cond_not_below}
 use Rattle.formatting.proofs.digit.Statement.{statement}
 use Rattle.formatting.proofs.digit.Tie as tie
 
-cast-result : tie.Need-overflow-cast-result
+cast-result : tie.Need-overflow_cast-result
 cast-result c = search rules
 
-add-result : tie.Need-overflow-add-result
+add-result : tie.Need-overflow_add-result
 add-result c = search rules
 
-cast-result-2 : tie.Need-overflow-cast-result-2
+cast-result-2 : tie.Need-overflow_cast-result-else-n-lt10
 cast-result-2 c = search rules
 
-add-result-2 : tie.Need-overflow-add-result-2
+add-result-2 : tie.Need-overflow_add-result-else-n-lt10
 add-result-2 c = search rules
 
-returns : tie.Need-returns
-returns c = sym (cond_below _ _ _ _ c.if1.true)
+returns : tie.Need-returns-then-n-lt10
+returns c = sym (cond_below _ _ _ _ c.if-n-lt10.true)
 
-returns-2 : tie.Need-returns-2
-returns-2 c = sym (cond_not_below _ _ _ _ c.if1.false)
+returns-2 : tie.Need-returns-else-n-lt10
+returns-2 c = sym (cond_not_below _ _ _ _ c.if-n-lt10.false)
 
-pub digit-spec : {M : Type 1} → statement M
-digit-spec =
-    tie.close (tie.spec cast-result add-result cast-result-2 add-result-2 returns returns-2)
+pub digit_spec : {M : Type 1} → statement M
+digit_spec =
+    tie.close
+    (tie.spec
+    cast-result
+    add-result
+    cast-result-2
+    add-result-2
+    returns
+    returns-2)

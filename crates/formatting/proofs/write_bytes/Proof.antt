@@ -11,49 +11,46 @@ use Rattle.formatting.proofs.Texts.{bytes_none, bytes_as_long, bytes_next_room, 
 use Rattle.formatting.proofs.write_bytes.Statement.{statement}
 use Rattle.formatting.proofs.write_bytes.Tie as tie
 
-abbrev invariant-loop : tie.invariant-loop
+abbrev invariant-loop : tie.invariant-loop-i
 invariant-loop bytes output₀ at next₀ i₀ output next i = (i ≤ length bytes) × Wrote (bytes_text (take i bytes)) at output₀ next output
 
-abbrev decreases-loop : tie.decreases-loop
+abbrev decreases-loop : tie.decreases-loop-i
 decreases-loop bytes output₀ at next₀ i₀ output next i = length bytes - i
 
-loop-holds : tie.Need-loop-init invariant-loop decreases-loop
-loop-holds c = (omega arith, rw bytes_none (wrote_none c.before.before.args.at c.before.before.args.output.now))
+loop-holds : tie.Need-loop-i-init invariant-loop decreases-loop
+loop-holds c = (omega arith, rw bytes_none (wrote_none c.args.at c.args.output.now))
 
-shared-slice-read-write-byte : tie.Need-shared-slice-read-write-byte invariant-loop decreases-loop
+shared-slice-read-write-byte : tie.Need-bounds-bytes-i invariant-loop decreases-loop
 shared-slice-read-write-byte c = search rules
 
-write-byte-requires : tie.Need-write-byte-requires invariant-loop decreases-loop
+write-byte-requires : tie.Need-write_byte-next-requires invariant-loop decreases-loop
 write-byte-requires c κs =
-    let start = c.before.before.before.before.before.before in
-    let loop = c.before.before.before.loop in
-    bytes_next_room start.args.bytes.now start.args.at loop.i start.args.output.now loop.output loop.next start.requires loop.invariant.1 c.before.before.loop-test.true
+    let loop = c.loop-i in
+    bytes_next_room c.args.bytes.now c.args.at loop.i c.args.output.now loop.output loop.next c.requires loop.invariant.1 c.loop-i-test.true
 
-add-i : tie.Need-overflow-add-i invariant-loop decreases-loop
+add-i : tie.Need-overflow_add-i invariant-loop decreases-loop
 add-i c = search rules
 
-loop-less : tie.Need-loop-smaller invariant-loop decreases-loop
+loop-less : tie.Need-loop-i-smaller invariant-loop decreases-loop
 loop-less c = search rules
 
-loop-again : tie.Need-loop-preserved invariant-loop decreases-loop
+loop-again : tie.Need-loop-i-preserved invariant-loop decreases-loop
 loop-again c =
-    let start = c.before.before.before.before.before.before.before.before.before in
-    let loop = c.before.before.before.before.before.before.loop in (
+    let loop = c.loop-i in (
       omega arith,
-      bytes_next_written start.args.bytes.now start.args.at loop.i start.args.output.now loop.output loop.next start.requires loop.invariant.1 c.before.before.before.before.before.loop-test.true c.before.before.write_byte.ensures,
+      bytes_next_written c.args.bytes.now c.args.at loop.i c.args.output.now loop.output loop.next c.requires loop.invariant.1 c.loop-i-test.true c.write_byte-next.ensures,
     )
 
-same_length : tie.Need-same-length invariant-loop decreases-loop
+same_length : tie.Need-shape_of-output invariant-loop decreases-loop
 same_length c =
-    let start = c.before.before.before.before in
-    let loop = c.before.loop in
-    bytes_as_long start.args.bytes.now start.args.at loop.i start.args.output.now loop.output loop.next start.requires loop.invariant.1 loop.invariant.0
+    let loop = c.loop-i in
+    bytes_as_long c.args.bytes.now c.args.at loop.i c.args.output.now loop.output loop.next c.requires loop.invariant.1 loop.invariant.0
 
 returns : tie.Need-returns invariant-loop decreases-loop
-returns c = rw (take_all c.before.loop.i c.before.before.before.before.args.bytes.now (omega arith)) at c.before.loop.invariant.1
+returns c = rw (take_all c.loop-i.i c.args.bytes.now (omega arith)) at c.loop-i.invariant.1
 
-pub write-bytes-spec : {M : Type 1} → statement M
-write-bytes-spec =
+pub write_bytes_spec : {M : Type 1} → statement M
+write_bytes_spec =
     tie.close
     (tie.spec
     invariant-loop

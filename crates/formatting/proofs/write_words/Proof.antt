@@ -10,54 +10,53 @@ use Rattle.formatting.proofs.Wrote.{wrote_none, wrote_length, wrote_next}
 use Rattle.formatting.proofs.write_words.Statement.{statement}
 use Rattle.formatting.proofs.write_words.Tie as tie
 
-abbrev invariant-loop : tie.invariant-loop
+abbrev invariant-loop : tie.invariant-loop-i
 invariant-loop words output₀ at i₀ output i = (i ≤ length words) × Wrote (take i words) at output₀ (at + i) output
 
-abbrev decreases-loop : tie.decreases-loop
+abbrev decreases-loop : tie.decreases-loop-i
 decreases-loop words output₀ at i₀ output i = length words - i
 
 -- the slice is as long as it was
-as_long : (c : tie.At-loop invariant-loop decreases-loop) → length c.loop.output ≡ length c.before.args.output.now
+as_long : (c : tie.At-loop-i invariant-loop decreases-loop) → length c.loop-i.output ≡ length c.args.output.now
 as_long c =
-    wrote_length c.loop.invariant.1 (omega (arith, c.before.requires, c.loop.invariant.0, length-take-le c.loop.i c.before.args.words.now c.loop.invariant.0))
+    wrote_length c.loop-i.invariant.1 (omega (arith, c.requires, c.loop-i.invariant.0, length-take-le c.loop-i.i c.args.words.now c.loop-i.invariant.0))
 
-loop-holds : tie.Need-loop-init invariant-loop decreases-loop
+loop-holds : tie.Need-loop-i-init invariant-loop decreases-loop
 loop-holds c =
     let e : c.args.at + 0 ≡ c.args.at = omega arith in
     (omega arith, rw e (wrote_none c.args.at c.args.output.now))
 
-shared-slice-read-output : tie.Need-shared-slice-read-output invariant-loop decreases-loop
+shared-slice-read-output : tie.Need-bounds-words-i invariant-loop decreases-loop
 shared-slice-read-output c = search rules
 
-add-output : tie.Need-overflow-add-output invariant-loop decreases-loop
-add-output c = omega (arith, as_long c.before.before)
+add-output : tie.Need-overflow_add-output invariant-loop decreases-loop
+add-output c = omega (arith, as_long (c.before.before))
 
-slice-write-output : tie.Need-slice-write-output invariant-loop decreases-loop
-slice-write-output c = omega (arith, as_long c.before.before, c.before.before.before.requires, c.before.loop-test.true)
+slice-write-output : tie.Need-bounds-output-at invariant-loop decreases-loop
+slice-write-output c = omega (arith, as_long (c.before.before), c.requires, c.loop-i-test.true)
 
-add-i : tie.Need-overflow-add-i invariant-loop decreases-loop
+add-i : tie.Need-overflow_add-i invariant-loop decreases-loop
 add-i c = search rules
 
-loop-less : tie.Need-loop-smaller invariant-loop decreases-loop
+loop-less : tie.Need-loop-i-smaller invariant-loop decreases-loop
 loop-less c = search rules
 
-loop-again : tie.Need-loop-preserved invariant-loop decreases-loop
+loop-again : tie.Need-loop-i-preserved invariant-loop decreases-loop
 loop-again c =
-    let start = c.before.before.before in
-    let loop = c.before.before.loop in
-    (omega arith, wrote_next start.args.words.now start.args.at loop.i start.args.output.now loop.output c.before.loop-test.true start.requires loop.invariant.1)
+    let loop = c.loop-i in
+    (omega arith, wrote_next c.args.words.now c.args.at loop.i c.args.output.now loop.output c.loop-i-test.true c.requires loop.invariant.1)
 
-add-result : tie.Need-overflow-add-result invariant-loop decreases-loop
-add-result c = omega (arith, c.before.before.requires, c.before.loop.invariant.0)
+add-result : tie.Need-overflow_add-result invariant-loop decreases-loop
+add-result c = omega (arith, c.requires, c.loop-i.invariant.0)
 
-same_length : tie.Need-same-length invariant-loop decreases-loop
-same_length c = as_long c.before
+same_length : tie.Need-shape_of-output invariant-loop decreases-loop
+same_length c = as_long (c.before)
 
 returns : tie.Need-returns invariant-loop decreases-loop
-returns c = rw (take_all c.before.loop.i c.before.before.args.words.now (omega arith)) at c.before.loop.invariant.1
+returns c = rw (take_all c.loop-i.i c.args.words.now (omega arith)) at c.loop-i.invariant.1
 
-pub write-words-spec : {M : Type 1} → statement M
-write-words-spec =
+pub write_words_spec : {M : Type 1} → statement M
+write_words_spec =
     tie.close
     (tie.spec
     invariant-loop

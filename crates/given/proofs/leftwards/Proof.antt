@@ -10,10 +10,10 @@ negation-fits : (n : ℕ) → n < 256 → SFits w32 (neg_ℤ (pos n))
 negation-fits zero h = sfits_lit tt
 negation-fits (suc n) h = record { sfits = omega arith }
 
-cast-result : tie.Need-overflow-cast-result
+cast-result : tie.Need-overflow_cast-result
 cast-result c = search rules
 
-sub-result : tie.Need-overflow-sub-result
+sub-result : tie.Need-overflow_sub-result
 sub-result c =
     let e : to_z w32 c.args.distance ≡ pos c.args.distance = to_z_pos w32 (omega arith) in
     rw (e, +ℤ_idl) (negation-fits c.args.distance (omega arith))
@@ -21,5 +21,10 @@ sub-result c =
 returns : tie.Need-returns
 returns c = search rules
 
-pub leftwards-spec : {M : Type 1} → statement M
-leftwards-spec = tie.close (tie.spec cast-result sub-result returns)
+pub leftwards_spec : {M : Type 1} → statement M
+leftwards_spec =
+    tie.close
+    (tie.spec
+    cast-result
+    sub-result
+    returns)

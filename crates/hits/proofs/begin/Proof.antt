@@ -1,10 +1,9 @@
 -- `hits::begin` meets its contract: as many words of the anchor as stand before its first candidate are passed. Assumes nothing.
-use Prim.Native.Nat.{ℕ, ◌≤◌, ◌<◌}
+use Prim.Native.Nat.{ℕ, ◌<◌}
 use mathlib.Core.Path.{refl}
 use native.Mathlib.Omega.{arith}
 use borrow.Author.Rules.{rules}
 use lib.ListN.{length, get_or}
-use Rattle.base.specs.Texts.{max_words}
 use Rattle.base.proofs.Lists.{all_at}
 use Rattle.base.proofs.Counts.{count_take_rises}
 use Rattle.index.specs.Arrays.{arrays, text_in}
@@ -63,64 +62,63 @@ way-of-requires c κs =
     let i = c.before.before.before.before.before.before in
     ((start i).requires.0.ready, below i)
 
--- the second is one of the words, and so a word of the vocabulary
-abbrev anchored : tie.After-way-of → tie.After-anchor-of
-anchored w = w.before.before.before.before.before.before.before
+looked-at-requires : tie.Need-looked-at-requires
+looked-at-requires c κs = search rules
 
-seconded : (w : tie.After-way-of) → let st = start (anchored w) in
-    get_or st.args.words.now w.before.before.before.before.before.before.second-of.result.number 0 < st.args.shape.vocabulary
-seconded w =
-    let o = w.before.before.before.before.before.before in
-    let st = start (anchored w) in
+-- the second is one of the words, and so a word of the vocabulary
+seconded : (c : tie.After-looked-at) → let i = c.before.before.before.before.before.before.before.before in
+    get_or (start i).args.words.now c.before.before.before.before.before.before.before.second-of.result.number 0 < (start i).args.shape.vocabulary
+seconded c =
+    let o = c.before.before.before.before.before.before.before in
+    let st = start o.before in
     all_at (λ (x : ℕ). x < st.args.shape.vocabulary) st.args.words.now 0 o.second-of.result.number st.pre.0.below o.second-of.ensures.numbered
 
--- no text has more words than the limit
-few : (w : tie.After-way-of) → (anchored w).before.text-length.result ≤ max_words
-few w =
-    let i = anchored w in
-    let p = (start i).pre.0.ready.checked in
-    omega (arith, i.before.text-length.ensures.1 _ _ _ _ _ p, text_most p)
-
 mul-other : tie.Need-overflow-mul-other
-mul-other c = omega (arith, c.before.before.before.before.before.before.second-of.ensures.numbered, (start (anchored c)).requires.0.most)
+mul-other c =
+    let o = c.before.before.before.before.before.before.before in
+    omega (arith, o.second-of.ensures.numbered, (start o.before).requires.0.most)
 
 shared-slice-read-other : tie.Need-shared-slice-read-other
-shared-slice-read-other c = c.before.before.before.before.before.before.before.second-of.ensures.numbered
+shared-slice-read-other c = c.before.before.before.before.before.before.before.before.second-of.ensures.numbered
 
 cast-other : tie.Need-overflow-cast-other
-cast-other c = omega (arith, c.shared-slice-known8.given c.before.before.before.before.before.before.before.second-of.result.number)
+cast-other c = omega (arith, c.shared-slice-known8.given c.before.before.before.before.before.before.before.before.second-of.result.number)
 
 in-root-requires : tie.Need-in-root-requires
-in-root-requires c κs = ((start (anchored c.before)).requires.0.ready, below (anchored c.before))
+in-root-requires c κs =
+    let i = c.before.before.before.before.before.before.before.before.before in
+    ((start i).requires.0.ready, below i)
 
 in-root-requires-2 : tie.Need-in-root-requires-2
-in-root-requires-2 c κs = ((start (anchored c.before.before)).requires.0.ready, seconded c.before.before)
-
-looked-at-requires : tie.Need-looked-at-requires
-looked-at-requires c κs = few c.before.before.before
+in-root-requires-2 c κs =
+    let l = c.before.before in
+    ((start l.before.before.before.before.before.before.before.before).requires.0.ready, seconded l)
 
 is-exact-requires : tie.Need-is-exact-requires
-is-exact-requires c κs = few c.before.before.before.before
+is-exact-requires c κs =
+    let i = c.before.before.before.before.before.before.before.before.before.before.before in
+    let st = start i in
+    omega (arith, i.before.text-length.ensures.1 _ _ _ _ _ st.pre.0.ready.checked, text_most st.pre.0.ready.checked)
 
 returns : tie.Need-returns
 returns c =
-    let w = c.before.before.before.before.before in
-    let i = anchored w in
+    let l = c.before.before.before.before in
+    let i = l.before.before.before.before.before.before.before.before in
     let st = start i in
     let t = text_in st.args.s (arrays st.args.lengths.now st.args.bytes.now st.args.superblocks.now st.args.blocks.now) in
     let ws = st.args.words.now in
-    let k = w.before in (
+    let k = l.before.before in (
       record {
         sides = record {
           numbered = inside i;
           anchored = anchor_anchored t ws st.args.sought i.anchor-of.result i.anchor-of.ensures;
-          seconded = w.before.before.before.before.before.before.second-of.ensures;
+          seconded = l.before.before.before.before.before.before.before.second-of.ensures;
         };
         paired = st.pre.1;
         rank_is = refl;
         inside = below i;
-        often = w.before.before.before.before.frequency.ensures;
-        way_is = w.Way-of.ensures;
+        often = l.before.before.before.before.before.frequency.ensures;
+        way_is = l.before.Way-of.ensures;
         track_is = k.track-from.ensures.0;
         passed = λ p h l.
             omega (
@@ -148,11 +146,11 @@ begin-spec =
     least-requires
     track-from-requires
     way-of-requires
+    looked-at-requires
     mul-other
     shared-slice-read-other
     cast-other
     in-root-requires
     in-root-requires-2
-    looked-at-requires
     is-exact-requires
     returns)

@@ -1,14 +1,12 @@
 -- `hits::hit_in_part` meets its contract: no place before the first pair is a hit, and a place with a pair is tested. Assumes nothing.
 use Prim.Native.Nat.{ℕ, ◌+◌, ◌-◌, ◌≤◌, ◌<◌}
-use mathlib.Core.Path.{◌≡◌, refl, sym, ap, ap₂, ◌∙◌}
+use mathlib.Core.Path.{◌≡◌, refl, sym, ap, ◌∙◌}
 use mathlib.Core.Bool.{Bool, false}
 use mathlib.Core.Logic.{⊎_elim}
 use mathlib.Core.List.{List}
 use native.Mathlib.Omega.{arith}
-use borrow.Author.Tests.{eqb-true}
-use lib.Dec.{eqb}
 use lib.ListN.{length, take, drop, get_or, length-take, length-drop}
-use Rattle.base.proofs.Tests.{below_or_not, and_left, and_right}
+use Rattle.base.proofs.Tests.{below_or_not}
 use Rattle.index.specs.Arrays.{arrays, text_in}
 use Rattle.directory.specs.Counters.{max_bytes}
 use Rattle.words.proofs.Parts.{checked_bytes}
@@ -22,11 +20,11 @@ use Rattle.hits.proofs.hit_in_part.Tie as tie
 
 -- no hit has its anchor before the position
 abbrev invariant-loop : tie.invariant-loop
-invariant-loop s shape lengths bytes superblocks blocks starts documents firsts words sought anchor from to x number y here there same at₀ at =
+invariant-loop s shape lengths bytes superblocks blocks starts documents firsts words sought anchor from to x number y here there at₀ at =
     (from ≤ at) × ((p : ℕ) → from ≤ p + anchor → p + anchor < at → hit_in documents (text_in s (arrays lengths bytes superblocks blocks)) words sought p ≡ false)
 
 abbrev decreases-loop : tie.decreases-loop
-decreases-loop s shape lengths bytes superblocks blocks starts documents firsts words sought anchor from to x number y here there same at₀ at = to - at
+decreases-loop s shape lengths bytes superblocks blocks starts documents firsts words sought anchor from to x number y here there at₀ at = to - at
 
 abbrev text : tie.Start invariant-loop decreases-loop → List ℕ
 text st = text_in st.args.s (arrays st.args.lengths.now st.args.bytes.now st.args.superblocks.now st.args.blocks.now)
@@ -125,17 +123,8 @@ next-pair-requires : tie.Need-next-pair-requires invariant-loop decreases-loop
 next-pair-requires c κs =
     let i = c.before.before in
     let a = (st i).args in
-    let x = get_or a.firsts.now a.anchor 0 in
-    let y = get_or a.firsts.now a.second.number 0 in
     let from = at i - a.second.here + a.second.there in
-    let size = a.to - a.second.here + a.second.there - from in (
-      omega (arith, one-length i, back i, beside i, length-take size (drop from a.bytes.now), length-drop from a.bytes.now),
-      λ e.
-          let k : a.second.here ≡ a.second.there = eqb-true a.second.here a.second.there (and_left (eqb a.second.here a.second.there) (eqb x y) e) in
-          let p : at i ≡ from = omega (arith, back i) in
-          let q : a.to - at i ≡ size = omega (arith, back i) in
-          (ap₂ (λ (n f : ℕ). take n (drop f a.bytes.now)) q p, eqb-true x y (and_right (eqb a.second.here a.second.there) (eqb x y) e)),
-    )
+    omega (arith, one-length i, back i, beside i, length-take (a.to - a.second.here + a.second.there - from) (drop from a.bytes.now), length-drop from a.bytes.now)
 
 -- the position of the pair is in the part or at its end
 step : (c : tie.After-next-pair invariant-loop decreases-loop) → c.next-pair.result ≤ (st c.before.before.before).args.to - at c.before.before.before
@@ -181,8 +170,8 @@ add_at c = omega (arith, step c, inside c.before.before.before, few c.before.bef
 returns : tie.Need-returns invariant-loop decreases-loop
 returns c = λ p h l. clear c.before p h (omega (arith, c.if1.true))
 
-sub-t38 : tie.Need-overflow-sub-t38 invariant-loop decreases-loop
-sub-t38 c =
+sub-t35 : tie.Need-overflow-sub-t35 invariant-loop decreases-loop
+sub-t35 c =
     let i = c.before.before.before.before in
     omega (arith, (st i).requires.3.anchored, after i)
 
@@ -254,7 +243,7 @@ hit-in-part-spec =
     next-pair-requires
     add_at
     returns
-    sub-t38
+    sub-t35
     hit-at-requires
     returns-2
     add-at-2

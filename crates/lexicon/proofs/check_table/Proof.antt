@@ -8,23 +8,29 @@ use Rattle.lexicon.proofs.Tables.{table_broken, table_kept}
 use Rattle.lexicon.proofs.check_table.Statement.{statement}
 use Rattle.lexicon.proofs.check_table.Tie as tie
 
-is-table-requires : tie.Need-is-table-requires
+is-table-requires : tie.Need-is_table-requires
 is-table-requires c κs = search rules
 
 refused-requires : tie.Need-refused-requires
 refused-requires c κs = search rules
 
-returns : tie.Need-returns
+returns : tie.Need-returns-then-not-is_table
 unfolding table_answer
-returns c = c.refused.ensures ∙ sym (table_broken c.before.before.before.before.args.table.now (accepted 0) (sym c.before.before.is-table.ensures ∙ not-true c.before.before.is-table.result c.before.if1.true))
+returns c = c.refused.ensures ∙ sym (table_broken c.args.table.now (accepted 0) (sym c.is_table.ensures ∙ c.if-not-is_table.true))
 
 accepted-requires : tie.Need-accepted-requires
 accepted-requires c κs = search rules
 
-returns-2 : tie.Need-returns-2
+returns-2 : tie.Need-returns
 unfolding table_answer
-returns-2 c = c.accepted.ensures ∙ sym (table_kept c.before.before.before.before.args.table.now (accepted 0) (sym c.before.before.is-table.ensures ∙ not-false c.before.before.is-table.result c.before.if1.false))
+returns-2 c = c.accepted.ensures ∙ sym (table_kept c.args.table.now (accepted 0) (sym c.is_table.ensures ∙ c.if-not-is_table.false))
 
-pub check-table-spec : {M : Type 1} → statement M
-check-table-spec =
-    tie.close (tie.spec is-table-requires refused-requires returns accepted-requires returns-2)
+pub check_table_spec : {M : Type 1} → statement M
+check_table_spec =
+    tie.close
+    (tie.spec
+    is-table-requires
+    refused-requires
+    returns
+    accepted-requires
+    returns-2)

@@ -5,14 +5,19 @@ use Rattle.lexicon.proofs.Entries.{zero_passes, other_passes}
 use Rattle.lexicon.proofs.is_entry.Statement.{statement}
 use Rattle.lexicon.proofs.is_entry.Tie as tie
 
-returns : tie.Need-returns
-returns c = sym (zero_passes c.before.args.table.now c.before.args.x c.if1.true)
+returns : tie.Need-returns-then-x-eq0
+returns c = sym (zero_passes c.args.table.now c.args.x c.if-x-eq0.true)
 
-shared-slice-read-result : tie.Need-shared-slice-read-result
+shared-slice-read-result : tie.Need-bounds-table-x
 shared-slice-read-result c = search rules
 
-returns-2 : tie.Need-returns-2
-returns-2 c = sym (other_passes c.before.before.args.table.now c.before.before.args.x c.before.if1.false)
+returns-2 : tie.Need-returns
+returns-2 c = sym (other_passes c.args.table.now c.args.x c.if-x-eq0.false)
 
-pub is-entry-spec : {M : Type 1} → statement M
-is-entry-spec = tie.close (tie.spec returns shared-slice-read-result returns-2)
+pub is_entry_spec : {M : Type 1} → statement M
+is_entry_spec =
+    tie.close
+    (tie.spec
+    returns
+    shared-slice-read-result
+    returns-2)

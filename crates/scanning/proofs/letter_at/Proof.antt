@@ -7,25 +7,27 @@ use Rattle.scanning.proofs.Scans.{letter_inside, letter_end}
 use Rattle.scanning.proofs.letter_at.Statement.{statement}
 use Rattle.scanning.proofs.letter_at.Tie as tie
 
-shared-slice-read-byte : tie.Need-shared-slice-read-byte
+shared-slice-read-byte : tie.Need-bounds-text-at
 shared-slice-read-byte c = search rules
 
-cast-byte : tie.Need-overflow-cast-byte
-cast-byte c = omega (arith, c.shared-slice-known.given c.before.before.args.at)
+cast-byte : tie.Need-overflow_cast-byte
+cast-byte c = omega (arith, c.shared_slice_known-1.given c.args.at)
 
-shared-slice-read-result : tie.Need-shared-slice-read-result
-shared-slice-read-result c = let start = c.before.before.before in
-    omega (arith, c.before.shared-slice-known.given start.args.at, table_sized start.args.table.now start.requires)
+shared-slice-read-result : tie.Need-bounds-table-byte
+shared-slice-read-result c = omega (arith, c.shared_slice_known-1.given c.args.at, table_sized c.args.table.now c.requires)
 
-returns : tie.Need-returns
-returns c = let start = c.before.before.before in
-    sym (letter_inside start.args.table.now start.args.text.now start.args.at c.before.before.if1.true)
+returns : tie.Need-returns-then-at-text
+returns c = sym (letter_inside c.args.table.now c.args.text.now c.args.at c.if-at-text.true)
 
-returns-2 : tie.Need-returns-2
-returns-2 c = let start = c.before in
-    sym (letter_end start.args.table.now start.args.text.now start.args.at c.if1.false)
+returns-2 : tie.Need-returns-else-at-text
+returns-2 c = sym (letter_end c.args.table.now c.args.text.now c.args.at c.if-at-text.false)
 
-pub letter-at-spec : {M : Type 1} → statement M
-letter-at-spec =
+pub letter_at_spec : {M : Type 1} → statement M
+letter_at_spec =
     tie.close
-    (tie.spec shared-slice-read-byte cast-byte shared-slice-read-result returns returns-2)
+    (tie.spec
+    shared-slice-read-byte
+    cast-byte
+    shared-slice-read-result
+    returns
+    returns-2)

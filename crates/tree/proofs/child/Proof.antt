@@ -5,20 +5,27 @@ use Rattle.tree.proofs.Numbers.{children_most}
 use Rattle.tree.proofs.child.Statement.{statement}
 use Rattle.tree.proofs.child.Tie as tie
 
-sub-result : tie.Need-overflow-sub-result
+sub-result : tie.Need-overflow_sub-result
 sub-result c = search rules
 
-mul-result : tie.Need-overflow-mul-result
+mul-result : tie.Need-overflow_mul-result
 mul-result c = omega (arith, children_most c.args.s c.requires.0 c.args.node c.requires.1)
 
-add-result : tie.Need-overflow-add-result
+add-result : tie.Need-overflow_add-result
 add-result c = omega (arith, children_most c.args.s c.requires.0 c.args.node c.requires.1)
 
-add-result-2 : tie.Need-overflow-add-result-2
+add-result-2 : tie.Need-overflow_add-result-2
 add-result-2 c = omega (arith, children_most c.args.s c.requires.0 c.args.node c.requires.1)
 
 returns : tie.Need-returns
 returns c = search rules
 
-pub child-spec : {M : Type 1} → statement M
-child-spec = tie.close (tie.spec sub-result mul-result add-result add-result-2 returns)
+pub child_spec : {M : Type 1} → statement M
+child_spec =
+    tie.close
+    (tie.spec
+    sub-result
+    mul-result
+    add-result
+    add-result-2
+    returns)

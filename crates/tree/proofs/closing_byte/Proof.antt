@@ -5,20 +5,27 @@ use Rattle.dense.proofs.Codewords.{closing_byte_lem}
 use Rattle.tree.proofs.closing_byte.Statement.{statement}
 use Rattle.tree.proofs.closing_byte.Tie as tie
 
-sub-result : tie.Need-overflow-sub-result
+sub-result : tie.Need-overflow_sub-result
 sub-result c = search rules
 
-rem-result : tie.Need-nonzero-rem-result
+rem-result : tie.Need-nonzero_rem-result
 rem-result c = search rules
 
-add-result : tie.Need-overflow-add-result
+add-result : tie.Need-overflow_add-result
 add-result c = omega (arith, closing_byte_lem c.args.s c.requires c.args.rank)
 
-cast-result : tie.Need-overflow-cast-result
+cast-result : tie.Need-overflow_cast-result
 cast-result c = omega (arith, closing_byte_lem c.args.s c.requires c.args.rank)
 
 returns : tie.Need-returns
 returns c = search rules
 
-pub closing-byte-spec : {M : Type 1} → statement M
-closing-byte-spec = tie.close (tie.spec sub-result rem-result add-result cast-result returns)
+pub closing_byte_spec : {M : Type 1} → statement M
+closing_byte_spec =
+    tie.close
+    (tie.spec
+    sub-result
+    rem-result
+    add-result
+    cast-result
+    returns)

@@ -5,17 +5,23 @@ use Rattle.dense.proofs.Numbers.{small}
 use Rattle.tree.proofs.node_count.Statement.{statement}
 use Rattle.tree.proofs.node_count.Tie as tie
 
-sub-result : tie.Need-overflow-sub-result
+sub-result : tie.Need-overflow_sub-result
 sub-result c = search rules
 
-add-result : tie.Need-overflow-add-result
+add-result : tie.Need-overflow_add-result
 add-result c = omega (arith, (small c.args.s c.requires.0.least c.requires.0.most).all)
 
-div-result : tie.Need-nonzero-div-result
+div-result : tie.Need-nonzero_div-result
 div-result c = search rules
 
 returns : tie.Need-returns
 returns c = search rules
 
-pub node-count-spec : {M : Type 1} → statement M
-node-count-spec = tie.close (tie.spec sub-result add-result div-result returns)
+pub node_count_spec : {M : Type 1} → statement M
+node_count_spec =
+    tie.close
+    (tie.spec
+    sub-result
+    add-result
+    div-result
+    returns)

@@ -1,4 +1,4 @@
--- `count_few` meets its contract. The loop's invariant: found is the count of the first i bytes. Assumes nothing.
+-- `directory::count_few` meets its contract. The loop's invariant: found is the count of the first i bytes. Assumes nothing.
 use Prim.Native.Nat.{◌≤◌, ◌-◌}
 use mathlib.Core.Path.{◌≡◌, refl, ap, ◌∙◌}
 use mathlib.Core.Logic.{⊎_elim}
@@ -9,8 +9,8 @@ use lib.ListN.{length, take}
 use lib.Seq.{take_all}
 use Rattle.base.specs.Lists.{count_of}
 use Rattle.base.proofs.Counts.{count_hit, count_miss}
-use Rattle.block_scan.proofs.count_few.Statement.{statement}
-use Rattle.block_scan.proofs.count_few.Tie as tie
+use Rattle.directory.proofs.count_few.Statement.{statement}
+use Rattle.directory.proofs.count_few.Tie as tie
 
 abbrev invariant-loop : tie.invariant-loop
 invariant-loop part byte found₀ i₀ found i = (i ≤ length part) × (found ≡ count_of byte (take i part)) × (found ≤ i)

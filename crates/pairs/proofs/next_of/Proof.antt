@@ -1,0 +1,17 @@
+-- `pairs::next_of` meets its contract: the first pair of a byte with itself is its first occurrence. Assumes nothing.
+use mathlib.Core.Path.{◌∙◌}
+use borrow.Author.Rules.{rules}
+use Rattle.pairs.proofs.Pairs.{pair_itself}
+use Rattle.pairs.proofs.next_of.Statement.{statement}
+use Rattle.pairs.proofs.next_of.Tie as tie
+
+next-pair-requires : tie.Need-next-pair-requires
+next-pair-requires c κs = search rules
+
+returns : tie.Need-returns
+returns c =
+    let a = c.before.before.args in
+    c.next-pair.ensures ∙ pair_itself a.byte a.part.now
+
+pub next-of-spec : {M : Type 1} → statement M
+next-of-spec = tie.close (tie.spec next-pair-requires returns)
