@@ -1,6 +1,6 @@
 -- Laws of the hash table of the distinct words of a text, each at the place at which it appears first. Assumes nothing.
 use Prim.Native.Nat.{ℕ, zero, suc, ◌+◌, ◌-◌, ◌≤◌, ◌<◌}
-use mathlib.Core.Path.{◌≡◌, refl, sym, ap, ◌∙◌}
+use mathlib.Core.Path.{subst, ◌≡◌, refl, sym, ap, ◌∙◌}
 use mathlib.Core.Bool.{Bool, true, false, cond, false≢true, ◌&&◌}
 use mathlib.Core.Logic.{◌⊎◌, inl, inr}
 use mathlib.Core.List.{List, []}
@@ -245,7 +245,8 @@ module _ (words : List (List ℕ)) (p : ℕ) (heads links : List ℕ) (h : p < l
     where
       head : (d : ℕ) → d < buckets → (d ≡ bucket_of x) ⊎ (d ≡ bucket_of x → ⊥) → get_or (set heads (bucket_of x) (suc p)) d 0 ≡ last_where (appears_in words d) (suc p)
       head d l (inl m) =
-          rw m (get_or-set_same heads (bucket_of x) (suc p) 0 (omega (arith, chained.long, bucket_below x))
+          subst (λ (z : ℕ). get_or (set heads (bucket_of x) (suc p)) z 0 ≡ last_where (appears_in words z) (suc p)) (sym m)
+          (get_or-set_same heads (bucket_of x) (suc p) 0 (omega (arith, chained.long, bucket_below x))
           ∙ sym (last_yes (appears_in words (bucket_of x)) p (appears_here words (bucket_of x) p e refl)))
       head d l (inr m) =
           get_or-set_other heads (bucket_of x) d (suc p) 0 m ∙ chained.head d l ∙ sym (last_no (appears_in words d) p (appears_not words d p (λ f b. m (sym b))))

@@ -14,129 +14,116 @@ use Rattle.tallies.proofs.Turns.{Totalled, rows_to, totalled_start, totalled_len
 use Rattle.counter_checks.proofs.verify.Statement.{statement}
 use Rattle.counter_checks.proofs.verify.Tie as tie
 
-abbrev invariant-loop : tie.invariant-loop
+abbrev invariant-loop : tie.invariant-loop-superblock
 invariant-loop bytes superblocks blocks block per end totals₀ superblock₀ totals superblock =
     Totalled block per bytes end superblock totals × BeginsWithRows (superblock_row block per bytes) superblock superblocks
     × BeginsWithRows (block_row block per bytes) (rows_to block per bytes superblock) blocks
 
-abbrev decreases-loop : tie.decreases-loop
+abbrev decreases-loop : tie.decreases-loop-superblock
 decreases-loop bytes superblocks blocks block per end totals₀ superblock₀ totals superblock = end - superblock
 
-mul-row-count : tie.Need-overflow-mul-row-count invariant-loop decreases-loop
-mul-row-count c = omega (arith, c.before.before.before.requires.superblock_most)
+mul-row-count : tie.Need-overflow_mul-block invariant-loop decreases-loop
+mul-row-count c = omega (arith, c.requires.superblock_most)
 
-row-count-requires : tie.Need-row-count-requires invariant-loop decreases-loop
+row-count-requires : tie.Need-row_count-end-requires invariant-loop decreases-loop
 row-count-requires c κs =
-    let sizes = c.before.before.before.requires in
+    let sizes = c.requires in
     (superblock_some sizes, sizes.bytes_most)
 
-mul-if1 : tie.Need-overflow-mul-if1 invariant-loop decreases-loop
+mul-if1 : tie.Need-overflow_mul-end invariant-loop decreases-loop
 mul-if1 c =
-    let s = c.before.before.before.before in
-    let a = s.args in
-    omega (arith, c.row_count.ensures, s.requires.bytes_most, div-le_self (length a.bytes.now) (a.block * a.per))
+    let a = c.args in
+    omega (arith, c.row_count-end.ensures, c.requires.bytes_most, div-le_self (length a.bytes.now) (a.block * a.per))
 
-returns : tie.Need-returns invariant-loop decreases-loop
+returns : tie.Need-returns-then-superblocks-end invariant-loop decreases-loop
 returns c =
-    let a = c.before.before.before.before.before.args in
+    let a = c.args in
     sym (not_directory a.block a.per a.bytes.now a.superblocks.now a.blocks.now (λ d.
-    omega (arith, c.if1.true, ap length d.superblocks_are, superblock_rows_length a.block a.per a.bytes.now, c.before.row_count.ensures)))
+    omega (arith, c.if-superblocks-end.true, ap length d.superblocks_are, superblock_rows_length a.block a.per a.bytes.now, c.row_count-end.ensures)))
 
-row-count-requires-2 : tie.Need-row-count-requires-2 invariant-loop decreases-loop
+row-count-requires-2 : tie.Need-row_count-requires invariant-loop decreases-loop
 row-count-requires-2 c κs =
-    let sizes = c.before.before.before.before.before.requires in
+    let sizes = c.requires in
     (sizes.block_some, sizes.bytes_most)
 
-mul-if2 : tie.Need-overflow-mul-if2 invariant-loop decreases-loop
+mul-if2 : tie.Need-overflow_mul-row_count invariant-loop decreases-loop
 mul-if2 c =
-    let s = c.before.before.before.before.before.before in
-    let a = s.args in
-    omega (arith, c.row-count2.ensures, s.requires.bytes_most, div-le_self (length a.bytes.now) a.block)
+    let a = c.args in
+    omega (arith, c.row_count.ensures, c.requires.bytes_most, div-le_self (length a.bytes.now) a.block)
 
-returns-2 : tie.Need-returns-2 invariant-loop decreases-loop
+returns-2 : tie.Need-returns-then-blocks-row_count invariant-loop decreases-loop
 returns-2 c =
-    let a = c.before.before.before.before.before.before.before.args in
+    let a = c.args in
     sym (not_directory a.block a.per a.bytes.now a.superblocks.now a.blocks.now (λ d.
-    omega (arith, c.if2.true, ap length d.blocks_are, block_rows_length a.block a.per a.bytes.now, c.before.row-count2.ensures)))
+    omega (arith, c.if-blocks-row_count.true, ap length d.blocks_are, block_rows_length a.block a.per a.bytes.now, c.row_count.ensures)))
 
-loop-holds : tie.Need-loop-init invariant-loop decreases-loop
+loop-holds : tie.Need-loop-superblock-init invariant-loop decreases-loop
 loop-holds c =
-    let r = c.before.before.before in
-    let a = r.before.before.before.before.args in (
-      totalled_start a.block a.per a.bytes.now r.row_count.result r.row_count.ensures,
+    let a = c.args in (
+      totalled_start a.block a.per a.bytes.now c.row_count-end.result c.row_count-end.ensures,
       begins_none (superblock_row a.block a.per a.bytes.now) a.superblocks.now,
       rw (rows_none a.block a.per a.bytes.now) (begins_none (block_row a.block a.per a.bytes.now) a.blocks.now),
     )
 
-same-superblock-requires : tie.Need-same-superblock-requires invariant-loop decreases-loop
+same-superblock-requires : tie.Need-same_superblock-requires invariant-loop decreases-loop
 same-superblock-requires c κs =
-    let i = c.before in
-    (omega (arith, i.loop-test.true, i.before.before.before.before.if1.false), totalled_length i.before.loop.invariant.0)
+    (omega (arith, c.loop-superblock-test.true, c.if-superblocks-end.false), totalled_length c.loop-superblock.invariant.0)
 
-returns-3 : tie.Need-returns-3 invariant-loop decreases-loop
+returns-3 : tie.Need-returns-then-not-same_superblock invariant-loop decreases-loop
 unfolding superblock_rows
 returns-3 c =
-    let i = c.before.before.before in
-    let a = i.before.before.before.before.before.before.before.before.before.args in
-    let l = i.before.loop in
-    let same = c.before.same-superblock in
+    let a = c.args in
+    let l = c.loop-superblock in
+    let same = c.same_superblock in
     sym (not_directory a.block a.per a.bytes.now a.superblocks.now a.blocks.now (λ d.
     wrong_row (superblock_row a.block a.per a.bytes.now) (superblock_row_length a.block a.per a.bytes.now) (suc (length a.bytes.now / (a.block * a.per))) l.superblock a.superblocks.now l.totals
-    (omega (arith, i.loop-test.true, l.invariant.0.ends)) l.invariant.0.total (sym same.ensures ∙ not-true same.result c.if3.true) d.superblocks_are))
+    (omega (arith, c.loop-superblock-test.true, l.invariant.0.ends)) l.invariant.0.total (sym same.ensures ∙ c.if-not-same_superblock.true) d.superblocks_are))
 
-verify-superblock-requires : tie.Need-verify-superblock-requires invariant-loop decreases-loop
+verify-superblock-requires : tie.Need-verify_superblock-requires invariant-loop decreases-loop
 verify-superblock-requires c κs =
-    let i = c.before.before.before.before in
-    let o = i.before.before in
-    let s = o.before.before.before.before.before.before.before in
-    let l = i.before.loop in
-    (s.requires, totalled_reached s.requires l.invariant.0 s.args.blocks.now i.loop-test.true l.invariant.2, omega (arith, o.if2.false, o.before.row-count2.ensures))
+    let l = c.loop-superblock in
+    (c.requires, totalled_reached c.requires l.invariant.0 c.args.blocks.now c.loop-superblock-test.true l.invariant.2, omega (arith, c.if-blocks-row_count.false, c.row_count.ensures))
 
-returns-4 : tie.Need-returns-4 invariant-loop decreases-loop
+returns-4 : tie.Need-returns-then-not-verify_superblock invariant-loop decreases-loop
 returns-4 c =
-    let i = c.before.before.before.before.before.before in
-    let a = i.before.before.before.before.before.before.before.before.before.args in
-    let passed = c.before.verify-superblock in
-    sym (not_directory a.block a.per a.bytes.now a.superblocks.now a.blocks.now (λ d. passed.ensures.no (not-true passed.result c.if4.true) d.blocks_are))
+    let a = c.args in
+    let passed = c.verify_superblock in
+    sym (not_directory a.block a.per a.bytes.now a.superblocks.now a.blocks.now (λ d. passed.ensures.no c.if-not-verify_superblock.true d.blocks_are))
 
-add-superblock : tie.Need-overflow-add-superblock invariant-loop decreases-loop
+add-superblock : tie.Need-overflow_add-superblock invariant-loop decreases-loop
 add-superblock c = search rules
 
-loop-less : tie.Need-loop-smaller invariant-loop decreases-loop
+loop-less : tie.Need-loop-superblock-smaller invariant-loop decreases-loop
 loop-less c = search rules
 
-loop-again : tie.Need-loop-preserved invariant-loop decreases-loop
+loop-again : tie.Need-loop-superblock-preserved invariant-loop decreases-loop
 loop-again c =
-    let i = c.before.before.before.before.before.before in
-    let s = i.before.before.before.before.before.before.before.before.before in
-    let a = s.args in
-    let l = i.before.loop in
-    let same = c.before.before.before.before.same-superblock in
-    let passed = c.before.verify-superblock in
-    let p = passed.ensures.yes (not-false passed.result c.if4.false) in (
-      totalled_next s.requires l.invariant.0 i.loop-test.true _ p.1,
+    let a = c.args in
+    let l = c.loop-superblock in
+    let same = c.same_superblock in
+    let passed = c.verify_superblock in
+    let p = passed.ensures.yes c.if-not-verify_superblock.false in (
+      totalled_next c.requires l.invariant.0 c.loop-superblock-test.true _ p.1,
       right_row (superblock_row a.block a.per a.bytes.now) (superblock_row_length a.block a.per a.bytes.now) l.superblock a.superblocks.now l.totals l.invariant.1
-          l.invariant.0.total (sym same.ensures ∙ not-false same.result c.before.before.before.if3.false),
-      rw (rows_next s.requires l.invariant.0) at p.0,
+          l.invariant.0.total (sym same.ensures ∙ c.if-not-same_superblock.false),
+      rw (rows_next c.requires l.invariant.0) at p.0,
     )
 
-returns-5 : tie.Need-returns-5 invariant-loop decreases-loop
+returns-5 : tie.Need-returns invariant-loop decreases-loop
 unfolding superblock_rows block_rows
 returns-5 c =
-    let o = c.before.before in
-    let s = o.before.before.before.before.before.before.before in
-    let a = s.args in
-    let l = c.before.loop in
-    let e : l.superblock ≡ suc (length a.bytes.now / (a.block * a.per)) = omega (arith, l.invariant.0.most, l.invariant.0.ends, c.loop-test.false) in
+    let a = c.args in
+    let l = c.loop-superblock in
+    let e : l.superblock ≡ suc (length a.bytes.now / (a.block * a.per)) = omega (arith, l.invariant.0.most, l.invariant.0.ends, c.loop-superblock-test.false) in
     sym (is_directory_lem a.block a.per a.bytes.now a.superblocks.now a.blocks.now (record {
       superblocks_are = begins_whole (superblock_row a.block a.per a.bytes.now) (superblock_row_length a.block a.per a.bytes.now) (suc (length a.bytes.now / (a.block * a.per))) a.superblocks.now
-          (omega (arith, o.before.before.if1.false, o.before.before.before.row_count.ensures)) (rw e at l.invariant.1);
+          (omega (arith, c.if-superblocks-end.false, c.row_count-end.ensures)) (rw e at l.invariant.1);
       blocks_are = begins_whole (block_row a.block a.per a.bytes.now) (block_row_length a.block a.per a.bytes.now) (suc (length a.bytes.now / a.block)) a.blocks.now
-          (omega (arith, o.if2.false, o.before.row-count2.ensures)) (rw (rows_all s.requires l.invariant.0 c.loop-test.false) at l.invariant.2);
+          (omega (arith, c.if-blocks-row_count.false, c.row_count.ensures)) (rw (rows_all c.requires l.invariant.0 c.loop-superblock-test.false) at l.invariant.2);
     }))
 
-pub verify-spec : {M : Type 1} → statement M
-verify-spec =
+pub verify_spec : {M : Type 1} → statement M
+verify_spec =
     tie.close
     (tie.spec
     invariant-loop

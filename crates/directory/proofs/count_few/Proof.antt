@@ -12,47 +12,47 @@ use Rattle.base.proofs.Counts.{count_hit, count_miss}
 use Rattle.directory.proofs.count_few.Statement.{statement}
 use Rattle.directory.proofs.count_few.Tie as tie
 
-abbrev invariant-loop : tie.invariant-loop
+abbrev invariant-loop : tie.invariant-loop-i
 invariant-loop part byte found₀ i₀ found i = (i ≤ length part) × (found ≡ count_of byte (take i part)) × (found ≤ i)
 
-abbrev decreases-loop : tie.decreases-loop
+abbrev decreases-loop : tie.decreases-loop-i
 decreases-loop part byte found₀ i₀ found i = length part - i
 
-loop-holds : tie.Need-loop-init invariant-loop decreases-loop
+loop-holds : tie.Need-loop-i-init invariant-loop decreases-loop
 loop-holds c = (omega arith, refl, omega arith)
 
-shared-slice-read-if1 : tie.Need-shared-slice-read-if1 invariant-loop decreases-loop
+shared-slice-read-if1 : tie.Need-bounds-part-i invariant-loop decreases-loop
 shared-slice-read-if1 c = search rules
 
-add-found : tie.Need-overflow-add-found invariant-loop decreases-loop
+add-found : tie.Need-overflow_add-found invariant-loop decreases-loop
 add-found c = search rules
 
-add-i : tie.Need-overflow-add-i invariant-loop decreases-loop
+add-i : tie.Need-overflow_add-i invariant-loop decreases-loop
 add-i c = search rules
 
-loop-less : tie.Need-loop-smaller invariant-loop decreases-loop
+loop-less : tie.Need-loop-i-smaller invariant-loop decreases-loop
 loop-less c = search rules
 
-loop-again : tie.Need-loop-preserved invariant-loop decreases-loop
+loop-again : tie.Need-loop-i-preserved invariant-loop decreases-loop
 loop-again c =
-    let l = c.before.before.before.loop in
-    let a = c.before.before.before.before.args in (
+    let l = c.loop-i in
+    let a = c.args in (
       omega arith,
       rw (add-one l.i)
           (⊎_elim
-          (λ w. omega (arith, count_hit a.byte a.part.now l.i (omega arith) w.0.taken))
-          (λ w. omega (arith, count_miss a.byte a.part.now l.i (omega arith) w.0.left))
-          c.if1.branch),
-      ⊎_elim (λ w. omega arith) (λ w. omega arith) c.if1.branch,
+          (λ w. omega (arith, count_hit a.byte a.part.now l.i (omega arith) w.if-part-i.true))
+          (λ w. omega (arith, count_miss a.byte a.part.now l.i (omega arith) w.if-part-i.false))
+          c.if-part-i.branch-raw),
+      ⊎_elim (λ w. omega arith) (λ w. omega arith) c.if-part-i.branch-raw,
     )
 
 returns : tie.Need-returns invariant-loop decreases-loop
 returns c =
-    let s = c.before.before.args in
-    c.before.loop.invariant.1 ∙ ap (count_of s.byte) (take_all c.before.loop.i s.part.now (omega arith))
+    let s = c.args in
+    c.loop-i.invariant.1 ∙ ap (count_of s.byte) (take_all c.loop-i.i s.part.now (omega arith))
 
-pub count-few-spec : {M : Type 1} → statement M
-count-few-spec =
+pub count_few_spec : {M : Type 1} → statement M
+count_few_spec =
     tie.close
     (tie.spec
     invariant-loop

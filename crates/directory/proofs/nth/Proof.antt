@@ -15,50 +15,50 @@ use Rattle.directory.proofs.nth.Statement.{statement}
 use Rattle.directory.proofs.nth.Tie as tie
 
 -- the answer
-found : (c : tie.After-position-of) → let a = c.before.before.before.before.before.before.before.args in c.before.before.before.block_with.result.start + c.position-of.result ≡ nth a.byte a.j a.bytes.now
+found : (c : tie.After-position_of) → let a = c.args in c.block_with-held.result.start + c.position_of.result ≡ nth a.byte a.j a.bytes.now
 found c =
-    let a = c.before.before.before.before.before.before.before.args in
-    let held = c.before.before.before.block_with.result in
-    let w = c.before.before.before.block_with.ensures in
+    let a = c.args in
+    let held = c.block_with-held.result in
+    let w = c.block_with-held.ensures in
     let n : ℕ = held.stop - held.start in
     let part : List ℕ = held_part a.bytes.now held in
     let size : n ≡ length part = omega (arith, length-take n (drop held.start a.bytes.now), length-drop held.start a.bytes.now, w.inside) in
-    let e : c.position-of.result ≡ nth a.byte held.rest part =
-    c.position-of.ensures ∙ ap (λ (r : Scanned). position_of r.stands n) c.before.scan.ensures
+    let e : c.position_of.result ≡ nth a.byte held.rest part =
+    c.position_of.ensures ∙ ap (λ (r : Scanned). position_of r.stands n) c.scan-scanned.ensures
     ∙ ap (λ (n : ℕ). position_of (scan_of a.byte held.rest part).stands n) size ∙ scan_position a.byte held.rest part in
     rw e w.position
 
-block-with-requires : tie.Need-block-with-requires
+block-with-requires : tie.Need-block_with-held-requires
 block-with-requires c κs = search rules
 
-sub-scan : tie.Need-overflow-sub-scan
+sub-scan : tie.Need-slice_bounds-scan-count
 sub-scan c = search rules
 
-part-scan-start : tie.Need-slice-bounds-scan-start
+part-scan-start : tie.Need-slice_bounds-scan-start
 part-scan-start c = search rules
 
-part-scan-end : tie.Need-slice-bounds-scan-end
+part-scan-end : tie.Need-slice_bounds-scan-end
 part-scan-end c = search rules
 
-scan-requires : tie.Need-scan-requires
+scan-requires : tie.Need-scan-scanned-requires
 scan-requires c κs = search rules
 
-sub-position-of : tie.Need-overflow-sub-position-of
+sub-position-of : tie.Need-overflow_sub-stop
 sub-position-of c = search rules
 
-position-of-requires : tie.Need-position-of-requires
+position-of-requires : tie.Need-position_of-requires
 position-of-requires c κs = search rules
 
-add_at : tie.Need-overflow-add-at
+add_at : tie.Need-overflow_add-at
 add_at c =
-    let a = c.before.before.before.before.before.before.before.args in
+    let a = c.args in
     omega (arith, found c, nth_most a.byte a.j a.bytes.now)
 
 returns : tie.Need-returns
 returns c = found c
 
-pub nth-spec : {M : Type 1} → statement M
-nth-spec =
+pub nth_spec : {M : Type 1} → statement M
+nth_spec =
     tie.close
     (tie.spec
     block-with-requires

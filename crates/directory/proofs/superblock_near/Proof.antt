@@ -7,34 +7,34 @@ use Rattle.directory.proofs.Searches.{last_of_more}
 use Rattle.directory.proofs.superblock_near.Statement.{statement}
 use Rattle.directory.proofs.superblock_near.Tie as tie
 
-search-superblocks-requires : tie.Need-search-superblocks-requires
-search-superblocks-requires c κs = (omega arith, omega arith, c.before.before.requires.1)
+search-superblocks-requires : tie.Need-search_superblocks-requires
+search-superblocks-requires c κs = (omega arith, omega arith, c.requires.1)
 
-returns : tie.Need-returns
+returns : tie.Need-returns-then-rows-near
 returns c = search rules
 
-superblock-at-requires : tie.Need-superblock-at-requires
+superblock-at-requires : tie.Need-superblock_at-requires
 superblock-at-requires c κs = search rules
 
-search-superblocks-requires-2 : tie.Need-search-superblocks-requires-2
-search-superblocks-requires-2 c κs = (omega arith, omega arith, c.before.before.before.before.requires.1)
+search-superblocks-requires-2 : tie.Need-search_superblocks-requires-then-j-superblock_at
+search-superblocks-requires-2 c κs = (omega arith, omega arith, c.requires.1)
 
-returns-2 : tie.Need-returns-2
+returns-2 : tie.Need-returns-then-j-superblock_at
 returns-2 c = search rules
 
-row-ahead-requires : tie.Need-row-ahead-requires
+row-ahead-requires : tie.Need-row_ahead-end-requires
 row-ahead-requires c κs = search rules
 
-search-superblocks-requires-3 : tie.Need-search-superblocks-requires-3
+search-superblocks-requires-3 : tie.Need-search_superblocks-requires-2
 search-superblocks-requires-3 c κs = search rules
 
-returns-3 : tie.Need-returns-3
+returns-3 : tie.Need-returns
 returns-3 c =
-    let a = c.before.before.before.before.before.before.args in
-    last_of_more 0 (length a.superblocks.now / 256) c.search-superblocks3.ensures (omega arith) c.before.row-ahead.ensures.1 c.before.row-ahead.ensures.2
+    let a = c.args in
+    last_of_more 0 (length a.superblocks.now / 256) c.search_superblocks-2.ensures (omega arith) c.row_ahead-end.ensures.1 c.row_ahead-end.ensures.2
 
-pub superblock-near-spec : {M : Type 1} → statement M
-superblock-near-spec =
+pub superblock_near_spec : {M : Type 1} → statement M
+superblock_near_spec =
     tie.close
     (tie.spec
     search-superblocks-requires

@@ -11,86 +11,86 @@ use Rattle.scanning.specs.Scans.{bucket_of}
 use Rattle.hashing.proofs.chain.Statement.{statement}
 use Rattle.hashing.proofs.chain.Tie as tie
 
-abbrev invariant-loop : tie.invariant-loop
+abbrev invariant-loop : tie.invariant-loop-word
 invariant-loop table list from count heads₀ links₀ word₀ heads links word = (word ≤ count) × Buckets table list from word links × Chains table list from count word heads links
 
-abbrev decreases-loop : tie.decreases-loop
+abbrev decreases-loop : tie.decreases-loop-word
 decreases-loop table list from count heads₀ links₀ word₀ heads links word = word
 
 -- the bucket of the word that is put in is noted
-bucket-of : (c : tie.In-loop invariant-loop decreases-loop) → get_or c.before.loop.links (c.before.loop.word - 1) 0 ≡ bucket_of (spelled_at c.before.before.args.table.now c.before.before.args.list.now c.before.before.args.from (c.before.loop.word - 1))
-bucket-of c = c.before.loop.invariant.1.bucket (c.before.loop.word - 1) (omega (arith, c.loop-test.true))
+bucket-of : (c : tie.In-loop-word invariant-loop decreases-loop) → get_or c.loop-word.links (c.loop-word.word - 1) 0 ≡ bucket_of (spelled_at c.args.table.now c.args.list.now c.args.from (c.loop-word.word - 1))
+bucket-of c = c.loop-word.invariant.1.bucket (c.loop-word.word - 1) (omega (arith, c.loop-word-test.true))
 
 -- it is there
-bucket-inside : (c : tie.In-loop invariant-loop decreases-loop) → get_or c.before.loop.links (c.before.loop.word - 1) 0 < length c.before.loop.heads
+bucket-inside : (c : tie.In-loop-word invariant-loop decreases-loop) → get_or c.loop-word.links (c.loop-word.word - 1) 0 < length c.loop-word.heads
 bucket-inside c =
-    omega (arith, bucket-of c, bucket_below (spelled_at c.before.before.args.table.now c.before.before.args.list.now c.before.before.args.from (c.before.loop.word - 1)), c.before.loop.invariant.2.heads_long)
+    omega (arith, bucket-of c, bucket_below (spelled_at c.args.table.now c.args.list.now c.args.from (c.loop-word.word - 1)), c.loop-word.invariant.2.heads_long)
 
-loop-holds : tie.Need-loop-init invariant-loop decreases-loop
+loop-holds : tie.Need-loop-word-init invariant-loop decreases-loop
 loop-holds c = (omega arith, c.requires.1, c.requires.2)
 
-sub-bucket : tie.Need-overflow-sub-bucket invariant-loop decreases-loop
+sub-bucket : tie.Need-overflow_sub-bucket invariant-loop decreases-loop
 sub-bucket c = search rules
 
-mul-bucket : tie.Need-overflow-mul-bucket invariant-loop decreases-loop
+mul-bucket : tie.Need-offset_bounds-links-word invariant-loop decreases-loop
 mul-bucket c = search rules
 
-slice-read-bucket : tie.Need-slice-read-bucket invariant-loop decreases-loop
-slice-read-bucket c = omega (arith, c.before.before.loop.invariant.1.long, c.before.before.loop.invariant.0, c.before.before.before.requires.0, c.before.loop-test.true)
+slice-read-bucket : tie.Need-bounds-links-word invariant-loop decreases-loop
+slice-read-bucket c = omega (arith, c.loop-word.invariant.1.long, c.loop-word.invariant.0, c.requires.0, c.loop-word-test.true)
 
-cast-bucket : tie.Need-overflow-cast-bucket invariant-loop decreases-loop
-cast-bucket c = omega (arith, c.slice-known.given (c.before.before.loop.word - 1))
+cast-bucket : tie.Need-overflow_cast-bucket invariant-loop decreases-loop
+cast-bucket c = omega (arith, c.slice_known-1.given (c.loop-word.word - 1))
 
-mul-links : tie.Need-overflow-mul-links invariant-loop decreases-loop
-mul-links c = omega (arith, bucket-inside c.before, c.before.before.loop.invariant.2.heads_long)
+mul-links : tie.Need-offset_bounds-heads-bucket invariant-loop decreases-loop
+mul-links c = omega (arith, bucket-inside (c.before), c.loop-word.invariant.2.heads_long)
 
-slice-read-links : tie.Need-slice-read-links invariant-loop decreases-loop
-slice-read-links c = bucket-inside c.before.before
+slice-read-links : tie.Need-bounds-heads-bucket invariant-loop decreases-loop
+slice-read-links c = bucket-inside (c.before.before)
 
-sub-links : tie.Need-overflow-sub-links invariant-loop decreases-loop
+sub-links : tie.Need-overflow_sub-links invariant-loop decreases-loop
 sub-links c = search rules
 
-mul-links-2 : tie.Need-overflow-mul-links-2 invariant-loop decreases-loop
+mul-links-2 : tie.Need-offset_bounds-links-word-in-loop-word invariant-loop decreases-loop
 mul-links-2 c = search rules
 
-slice-write-links : tie.Need-slice-write-links invariant-loop decreases-loop
-slice-write-links c = omega (arith, c.before.before.before.loop.invariant.1.long, c.before.before.before.loop.invariant.0, c.before.before.before.before.requires.0, c.before.before.loop-test.true)
+slice-write-links : tie.Need-bounds-links-word-in-loop-word invariant-loop decreases-loop
+slice-write-links c = omega (arith, c.loop-word.invariant.1.long, c.loop-word.invariant.0, c.requires.0, c.loop-word-test.true)
 
-cast-heads : tie.Need-overflow-cast-heads invariant-loop decreases-loop
-cast-heads c = omega (arith, c.before.before.before.loop.invariant.0, c.before.before.before.before.requires.0)
+cast-heads : tie.Need-overflow_cast-heads invariant-loop decreases-loop
+cast-heads c = omega (arith, c.loop-word.invariant.0, c.requires.0)
 
-mul-heads : tie.Need-overflow-mul-heads invariant-loop decreases-loop
-mul-heads c = omega (arith, bucket-inside c.before.before, c.before.before.before.loop.invariant.2.heads_long)
+mul-heads : tie.Need-offset_bounds-heads-bucket-in-loop-word invariant-loop decreases-loop
+mul-heads c = omega (arith, bucket-inside (c.before.before), c.loop-word.invariant.2.heads_long)
 
-slice-write-heads : tie.Need-slice-write-heads invariant-loop decreases-loop
-slice-write-heads c = bucket-inside c.before.before
+slice-write-heads : tie.Need-bounds-heads-bucket-in-loop-word invariant-loop decreases-loop
+slice-write-heads c = bucket-inside (c.before.before)
 
-sub_word : tie.Need-overflow-sub-word invariant-loop decreases-loop
-sub_word c = omega (arith, c.before.before.loop-test.true)
+sub_word : tie.Need-overflow_sub-word invariant-loop decreases-loop
+sub_word c = omega (arith, c.loop-word-test.true)
 
-loop-less : tie.Need-loop-smaller invariant-loop decreases-loop
-loop-less c = omega (arith, c.before.before.loop-test.true)
+loop-less : tie.Need-loop-word-smaller invariant-loop decreases-loop
+loop-less c = omega (arith, c.loop-word-test.true)
 
-loop-again : tie.Need-loop-preserved invariant-loop decreases-loop
-loop-again c = let a = c.before.before.before.before.args in
-    let loop = c.before.before.before.loop in
-    let h : 0 < loop.word = c.before.before.loop-test.true in (
+loop-again : tie.Need-loop-word-preserved invariant-loop decreases-loop
+loop-again c = let a = c.args in
+    let loop = c.loop-word in
+    let h : 0 < loop.word = c.loop-word-test.true in (
       omega (arith, loop.invariant.0),
       buckets_less a.table.now a.list.now a.from loop.word loop.links _ loop.invariant.1 h,
-      chains_more a.table.now a.list.now a.from a.count loop.word loop.heads loop.links _ loop.invariant.2 h loop.invariant.0 c.before.before.before.before.requires.0 (bucket-of c.before.before),
+      chains_more a.table.now a.list.now a.from a.count loop.word loop.heads loop.links _ loop.invariant.2 h loop.invariant.0 c.requires.0 (bucket-of (c.before.before)),
     )
 
-same_length : tie.Need-same-length invariant-loop decreases-loop
-same_length c = c.before.loop.invariant.2.heads_long ∙ sym c.before.before.requires.2.heads_long
+same_length : tie.Need-shape_of-heads invariant-loop decreases-loop
+same_length c = c.loop-word.invariant.2.heads_long ∙ sym c.requires.2.heads_long
 
-same-length-2 : tie.Need-same-length-2 invariant-loop decreases-loop
-same-length-2 c = c.before.loop.invariant.1.long ∙ sym c.before.before.requires.1.long
+same-length-2 : tie.Need-shape_of-links invariant-loop decreases-loop
+same-length-2 c = c.loop-word.invariant.1.long ∙ sym c.requires.1.long
 
 returns : tie.Need-returns invariant-loop decreases-loop
-returns c = rw (← none c.before.loop.word c.loop-test.false) c.before.loop.invariant.2
+returns c = rw (← none c.loop-word.word c.loop-word-test.false) c.loop-word.invariant.2
 
-pub chain-spec : {M : Type 1} → statement M
-chain-spec =
+pub chain_spec : {M : Type 1} → statement M
+chain_spec =
     tie.close
     (tie.spec
     invariant-loop

@@ -10,43 +10,41 @@ use Rattle.hashing.proofs.find.Statement.{statement}
 use Rattle.hashing.proofs.find.Tie as tie
 
 -- the bucket is there
-inside_of : (c : tie.After-shared-slice-known6) → c.before.before.before.before.before.before.args.bucket < buckets
+inside_of : (c : tie.After-shared_slice_known-6-1) → c.args.bucket < buckets
 inside_of c =
-    let a = c.before.before.before.before.before.before.args in
-    omega (arith, c.before.before.before.before.before.before.requires.3, bucket_below (run_at a.table.now a.text.now a.at))
+    let a = c.args in
+    omega (arith, c.requires.3, bucket_below (run_at a.table.now a.text.now a.at))
 
 -- its first word
-first_of : (c : tie.After-shared-slice-known6) → get_or c.before.before.before.before.before.before.args.heads.now c.before.before.before.before.before.before.args.bucket 0
-    ≡ next_in c.before.before.before.before.before.before.args.table.now c.before.before.before.before.before.before.args.list.now c.before.before.before.before.before.before.args.from c.before.before.before.before.before.before.args.count c.before.before.before.before.before.before.args.bucket 0
-first_of c = c.before.before.before.before.before.before.requires.1.chained.head c.before.before.before.before.before.before.args.bucket (inside_of c)
+first_of : (c : tie.After-shared_slice_known-6-1) → get_or c.args.heads.now c.args.bucket 0
+    ≡ next_in c.args.table.now c.args.list.now c.args.from c.args.count c.args.bucket 0
+first_of c = c.requires.1.chained.head c.args.bucket (inside_of c)
 
-mul-word : tie.Need-overflow-mul-word
+mul-word : tie.Need-offset_bounds-heads-bucket
 mul-word c = omega (arith, inside_of c)
 
-shared-slice-read-word : tie.Need-shared-slice-read-word
-shared-slice-read-word c = omega (arith, inside_of c.before, c.before.before.before.before.before.before.before.requires.1.chained.heads_long)
+shared-slice-read-word : tie.Need-bounds-heads-bucket
+shared-slice-read-word c = omega (arith, inside_of (c.before), c.requires.1.chained.heads_long)
 
-cast-word : tie.Need-overflow-cast-word
-cast-word c = omega (arith, c.shared-slice-known7.given c.before.before.before.before.before.before.before.args.bucket)
+cast-word : tie.Need-overflow_cast-word
+cast-word c = omega (arith, c.shared_slice_known-7-1.given c.args.bucket)
 
-find-from-requires : tie.Need-find-from-requires
-find-from-requires c κs = let start = c.before.before.before.before.before.before.before in
-    let a = start.args in
-    let e = first_of c.before in (
-      start.requires.0,
-      start.requires.1.few,
-      start.requires.1.begun,
-      start.requires.1.chained.linked,
-      start.requires.2,
+find-from-requires : tie.Need-find_from-requires
+find-from-requires c κs = let a = c.args in
+    let e = first_of (c.before) in (
+      c.requires.0,
+      c.requires.1.few,
+      c.requires.1.begun,
+      c.requires.1.chained.linked,
+      c.requires.2,
       omega (arith, e, next_in_most a.table.now a.list.now a.from a.count a.bucket 0 (omega arith)),
-      λ (h : 0 < get_or a.heads.now a.bucket 0). next_in_bucket a.table.now a.list.now a.from a.count a.bucket 0 (get_or a.heads.now a.bucket 0 - 1) (omega (arith, e, h)) ∙ start.requires.3,
+      λ (h : 0 < get_or a.heads.now a.bucket 0). next_in_bucket a.table.now a.list.now a.from a.count a.bucket 0 (get_or a.heads.now a.bucket 0 - 1) (omega (arith, e, h)) ∙ c.requires.3,
     )
 
 returns : tie.Need-returns
-returns c = let start = c.before.before.before.before.before.before.before.before in
-    let a = start.args in
+returns c = let a = c.args in
     let w = run_at a.table.now a.text.now a.at in
-    c.find-from.ensures ∙ ap (index_from a.table.now a.list.now a.from a.count w) (first_of c.before.before) ∙ index_first a.table.now a.list.now a.from w a.bucket a.count start.requires.3
+    c.find_from.ensures ∙ ap (index_from a.table.now a.list.now a.from a.count w) (first_of (c.before.before)) ∙ index_first a.table.now a.list.now a.from w a.bucket a.count c.requires.3
 
 pub find_spec : {M : Type 1} → statement M
 find_spec =

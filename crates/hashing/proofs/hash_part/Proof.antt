@@ -8,36 +8,35 @@ use Rattle.scanning.specs.Scans.{buckets}
 use Rattle.hashing.proofs.hash_part.Statement.{statement}
 use Rattle.hashing.proofs.hash_part.Tie as tie
 
-clear-buckets-requires : tie.Need-clear-buckets-requires
+clear-buckets-requires : tie.Need-clear_buckets-requires
 clear-buckets-requires c κs = search rules
 
-note-starts-requires : tie.Need-note-starts-requires
+note-starts-requires : tie.Need-note_starts-behind-requires
 note-starts-requires c κs = search rules
 
 chain-requires : tie.Need-chain-requires
-chain-requires c κs = let start = c.before.before.before.before.before.before.before.before.before.before.before.before.before.before.before.before.before.before in
-    let a = start.args in
-    let cleared = c.before.before.before.before.before.before.before.before.before.before.before.clear-buckets in
-    let noted = c.before.before.before.before.before.before.note-starts.ensures in (
-      start.requires.2,
+chain-requires c κs = let a = c.args in
+    let cleared = c.clear_buckets in
+    let noted = c.note_starts-behind.ensures in (
+      c.requires.2,
       noted.1,
-      chains_none a.table.now a.list.now a.from a.count _ _ (cleared.auto.0 ∙ start.requires.4.heads_long) (λ b (h : b < buckets). cleared.ensures b (omega (arith, start.requires.4.heads_long))) noted.1.long,
+      chains_none a.table.now a.list.now a.from a.count _ _ (cleared.auto.heads ∙ c.requires.4.heads_long) (λ b (h : b < buckets). cleared.ensures b (omega (arith, c.requires.4.heads_long))) noted.1.long,
     )
 
-same_length : tie.Need-same-length
+same_length : tie.Need-shape_of-heads
 same_length c = search rules
 
-same-length-2 : tie.Need-same-length-2
+same-length-2 : tie.Need-shape_of-links
 same-length-2 c = search rules
 
-same-length-3 : tie.Need-same-length-3
+same-length-3 : tie.Need-shape_of-starts
 same-length-3 c = search rules
 
 returns : tie.Need-returns
 returns c = search rules
 
-pub hash-part-spec : {M : Type 1} → statement M
-hash-part-spec =
+pub hash_part_spec : {M : Type 1} → statement M
+hash_part_spec =
     tie.close
     (tie.spec
     clear-buckets-requires

@@ -14,89 +14,88 @@ use Rattle.scanning.specs.Scans.{run_at, bucket_of}
 use Rattle.list_rules.proofs.is_part_distinct.Statement.{statement}
 use Rattle.list_rules.proofs.is_part_distinct.Tie as tie
 
-abbrev invariant-loop : tie.invariant-loop
+abbrev invariant-loop : tie.invariant-loop-word
 invariant-loop table list from count links starts word₀ word = (word ≤ count) × ((i : ℕ) → i < word → (j : ℕ) → i < j → j < count → spelled_at table list from i ≡ spelled_at table list from j → ⊥)
 
-abbrev decreases-loop : tie.decreases-loop
+abbrev decreases-loop : tie.decreases-loop-word
 decreases-loop table list from count links starts word₀ word = count - word
 
 -- the word that begins where it is noted
-started : (c : tie.In-loop invariant-loop decreases-loop) → run_at c.before.before.before.before.before.before.args.table.now c.before.before.before.before.before.before.args.list.now (get_or c.before.before.before.before.before.before.args.starts.now c.before.loop.word 0) ≡ spelled_at c.before.before.before.before.before.before.args.table.now c.before.before.before.before.before.before.args.list.now c.before.before.before.before.before.before.args.from c.before.loop.word
-started c = (c.before.before.before.before.before.before.requires.2.start c.before.loop.word c.loop-test.true).1
+started : (c : tie.In-loop-word invariant-loop decreases-loop) → run_at c.args.table.now c.args.list.now (get_or c.args.starts.now c.loop-word.word 0) ≡ spelled_at c.args.table.now c.args.list.now c.args.from c.loop-word.word
+started c = (c.requires.2.start c.loop-word.word c.loop-word-test.true).1
 
 -- the next word of its bucket
-linked : (c : tie.In-loop invariant-loop decreases-loop) → get_or c.before.before.before.before.before.before.args.links.now c.before.loop.word 0 ≡ next_in c.before.before.before.before.before.before.args.table.now c.before.before.before.before.before.before.args.list.now c.before.before.before.before.before.before.args.from c.before.before.before.before.before.before.args.count (bucket_of (spelled_at c.before.before.before.before.before.before.args.table.now c.before.before.before.before.before.before.args.list.now c.before.before.before.before.before.before.args.from c.before.loop.word)) (suc c.before.loop.word)
-linked c = c.before.before.before.before.before.before.requires.3.link c.before.loop.word (omega arith) c.loop-test.true
+linked : (c : tie.In-loop-word invariant-loop decreases-loop) → get_or c.args.links.now c.loop-word.word 0 ≡ next_in c.args.table.now c.args.list.now c.args.from c.args.count (bucket_of (spelled_at c.args.table.now c.args.list.now c.args.from c.loop-word.word)) (suc c.loop-word.word)
+linked c = c.requires.3.link c.loop-word.word (omega arith) c.loop-word-test.true
 
-loop-holds : tie.Need-loop-init invariant-loop decreases-loop
+loop-holds : tie.Need-loop-word-init invariant-loop decreases-loop
 loop-holds c = (omega arith, λ i (h : i < 0) j l m q. absurd (omega arith))
 
-mul-start : tie.Need-overflow-mul-start invariant-loop decreases-loop
+mul-start : tie.Need-offset_bounds-starts-word invariant-loop decreases-loop
 mul-start c = search rules
 
-shared-slice-read-start : tie.Need-shared-slice-read-start invariant-loop decreases-loop
-shared-slice-read-start c = omega (arith, c.before.before.before.before.before.before.before.requires.2.long, c.before.loop-test.true, c.before.before.before.before.before.before.before.requires.1)
+shared-slice-read-start : tie.Need-bounds-starts-word invariant-loop decreases-loop
+shared-slice-read-start c = omega (arith, c.requires.2.long, c.loop-word-test.true, c.requires.1)
 
-mul_next : tie.Need-overflow-mul-next invariant-loop decreases-loop
+mul_next : tie.Need-offset_bounds-links-word invariant-loop decreases-loop
 mul_next c = search rules
 
-shared-slice-read-next : tie.Need-shared-slice-read-next invariant-loop decreases-loop
-shared-slice-read-next c = omega (arith, c.before.before.before.before.before.before.before.before.requires.3.long, c.before.before.loop-test.true, c.before.before.before.before.before.before.before.before.requires.1)
+shared-slice-read-next : tie.Need-bounds-links-word invariant-loop decreases-loop
+shared-slice-read-next c = omega (arith, c.requires.3.long, c.loop-word-test.true, c.requires.1)
 
-cast-next : tie.Need-overflow-cast-next invariant-loop decreases-loop
-cast-next c = omega (arith, c.shared-slice-known6.given c.before.before.before.loop.word)
+cast-next : tie.Need-overflow_cast-next invariant-loop decreases-loop
+cast-next c = omega (arith, c.shared_slice_known-in-loop-word-2-1.given c.loop-word.word)
 
-find-from-requires : tie.Need-find-from-requires invariant-loop decreases-loop
-find-from-requires c κs = let start = c.before.before.before.before.before.before.before.before in
-    let a = start.args in
-    let loop = c.before.before.before.loop in
+find-from-requires : tie.Need-find_from-later-requires invariant-loop decreases-loop
+find-from-requires c κs = let a = c.args in
+    let loop = c.loop-word in
     let b = bucket_of (spelled_at a.table.now a.list.now a.from loop.word) in
-    let e = linked c.before.before in (
-      start.requires.0,
-      start.requires.1,
-      start.requires.2,
-      start.requires.3,
-      (start.requires.2.start loop.word c.before.before.loop-test.true).0,
-      omega (arith, e, next_in_most a.table.now a.list.now a.from a.count b (suc loop.word) c.before.before.loop-test.true),
-      λ (h : 0 < get_or a.links.now loop.word 0). next_in_bucket a.table.now a.list.now a.from a.count b (suc loop.word) (get_or a.links.now loop.word 0 - 1) (omega (arith, e, h)) ∙ ap bucket_of (sym (started c.before.before)),
+    let e = linked (c.before.before) in (
+      c.requires.0,
+      c.requires.1,
+      c.requires.2,
+      c.requires.3,
+      (c.requires.2.start loop.word c.loop-word-test.true).0,
+      omega (arith, e, next_in_most a.table.now a.list.now a.from a.count b (suc loop.word) c.loop-word-test.true),
+      λ (h : 0 < get_or a.links.now loop.word 0). next_in_bucket a.table.now a.list.now a.from a.count b (suc loop.word) (get_or a.links.now loop.word 0 - 1) (omega (arith, e, h)) ∙ ap bucket_of (sym (started (c.before.before))),
     )
 
 -- the first later word that is alike
-found_of : (c : tie.After-find-from invariant-loop decreases-loop) → c.find-from.result
-    ≡ index_from c.before.before.before.before.before.before.before.before.before.args.table.now c.before.before.before.before.before.before.before.before.before.args.list.now c.before.before.before.before.before.before.before.before.before.args.from c.before.before.before.before.before.before.before.before.before.args.count (spelled_at c.before.before.before.before.before.before.before.before.before.args.table.now c.before.before.before.before.before.before.before.before.before.args.list.now c.before.before.before.before.before.before.before.before.before.args.from c.before.before.before.before.loop.word) (next_in c.before.before.before.before.before.before.before.before.before.args.table.now c.before.before.before.before.before.before.before.before.before.args.list.now c.before.before.before.before.before.before.before.before.before.args.from c.before.before.before.before.before.before.before.before.before.args.count (bucket_of (spelled_at c.before.before.before.before.before.before.before.before.before.args.table.now c.before.before.before.before.before.before.before.before.before.args.list.now c.before.before.before.before.before.before.before.before.before.args.from c.before.before.before.before.loop.word)) (suc c.before.before.before.before.loop.word))
+found_of : (c : tie.After-find_from-later invariant-loop decreases-loop) → c.find_from-later.result
+    ≡ index_from c.args.table.now c.args.list.now c.args.from c.args.count (spelled_at c.args.table.now c.args.list.now c.args.from c.loop-word.word) (next_in c.args.table.now c.args.list.now c.args.from c.args.count (bucket_of (spelled_at c.args.table.now c.args.list.now c.args.from c.loop-word.word)) (suc c.loop-word.word))
 found_of c =
-    let a = c.before.before.before.before.before.before.before.before.before.args in
-    let loop = c.before.before.before.before.loop in
-    c.find-from.ensures ∙ ap (λ (w : List ℕ). index_from a.table.now a.list.now a.from a.count w (get_or a.links.now loop.word 0)) (started c.before.before.before)
-    ∙ ap (index_from a.table.now a.list.now a.from a.count (spelled_at a.table.now a.list.now a.from loop.word)) (linked c.before.before.before)
+    let a = c.args in
+    let loop = c.loop-word in
+    c.find_from-later.ensures ∙ ap (λ (w : List ℕ). index_from a.table.now a.list.now a.from a.count w (get_or a.links.now loop.word 0)) (started (c.before.before.before))
+    ∙ ap (index_from a.table.now a.list.now a.from a.count (spelled_at a.table.now a.list.now a.from loop.word)) (linked (c.before.before.before))
 
-returns : tie.Need-returns invariant-loop decreases-loop
-returns c = let a = c.before.before.before.before.before.before.before.before.before.before.args in
-    let word = c.before.before.before.before.before.loop.word in
-    let later = index_later a.table.now a.list.now a.from (spelled_at a.table.now a.list.now a.from word) a.count word (c.before.find-from.result - 1) c.before.before.before.before.loop-test.true (omega (arith, found_of c.before, c.if1.true)) in
-    sym (part_repeated a.table.now a.list.now a.from a.count word (c.before.find-from.result - 1) later.0 later.1 later.2)
+returns : tie.Need-returns-then-later-gt0 invariant-loop decreases-loop
+returns c = let a = c.args in
+    let word = c.loop-word.word in
+    let later = index_later a.table.now a.list.now a.from (spelled_at a.table.now a.list.now a.from word) a.count word (c.find_from-later.result - 1) c.loop-word-test.true (omega (arith, found_of (c.before), c.if-later-gt0.true)) in
+    sym (part_repeated a.table.now a.list.now a.from a.count word (c.find_from-later.result - 1) later.0 later.1 later.2)
 
-add-word : tie.Need-overflow-add-word invariant-loop decreases-loop
+add-word : tie.Need-overflow_add-word invariant-loop decreases-loop
 add-word c = search rules
 
-loop-less : tie.Need-loop-smaller invariant-loop decreases-loop
-loop-less c = omega (arith, c.before.before.before.before.loop-test.true)
+loop-less : tie.Need-loop-word-smaller invariant-loop decreases-loop
+loop-less c = omega (arith, c.loop-word-test.true)
 
-loop-again : tie.Need-loop-preserved invariant-loop decreases-loop
-loop-again c = let a = c.before.before.before.before.before.before.before.before.before.before.args in
-    let loop = c.before.before.before.before.before.loop in (
-      omega (arith, c.before.before.before.before.loop-test.true),
-      below_more _ loop.word loop.invariant.1 (λ j l h q. index_no_later a.table.now a.list.now a.from (spelled_at a.table.now a.list.now a.from loop.word) a.count loop.word j (sym (found_of c.before) ∙ none c.before.find-from.result c.if1.false) l h q),
+loop-again : tie.Need-loop-word-preserved invariant-loop decreases-loop
+loop-again c = let a = c.args in
+    let loop = c.loop-word in (
+      omega (arith, c.loop-word-test.true),
+      below_more _ loop.word loop.invariant.1 (λ j l h q. index_no_later a.table.now a.list.now a.from (spelled_at a.table.now a.list.now a.from loop.word) a.count loop.word j (sym (found_of (c.before)) ∙ none c.find_from-later.result c.if-later-gt0.false) l h q),
     )
 
-returns-2 : tie.Need-returns-2 invariant-loop decreases-loop
-returns-2 c = let a = c.before.before.before.before.before.before.args in
-    let loop = c.before.loop in
-    let e : loop.word ≡ a.count = omega (arith, loop.invariant.0, c.loop-test.false) in
+returns-2 : tie.Need-returns invariant-loop decreases-loop
+returns-2 c = let a = c.args in
+    let loop = c.loop-word in
+    let e : loop.word ≡ a.count = omega (arith, loop.invariant.0, c.loop-word-test.false) in
     sym (part_unrepeated a.table.now a.list.now a.from a.count (λ i (h : i < a.count). loop.invariant.1 i (omega (arith, e, h))))
 
-pub is-part-distinct-spec : {M : Type 1} → statement M
-is-part-distinct-spec =
+pub is_part_distinct_spec : {M : Type 1} → statement M
+is_part_distinct_spec =
     tie.close
     (tie.spec
     invariant-loop

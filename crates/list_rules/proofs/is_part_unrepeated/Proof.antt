@@ -5,24 +5,21 @@ use Rattle.list_rules.proofs.Repeats.{repeated_more}
 use Rattle.list_rules.proofs.is_part_unrepeated.Statement.{statement}
 use Rattle.list_rules.proofs.is_part_unrepeated.Tie as tie
 
-is-part-distinct-requires : tie.Need-is-part-distinct-requires
-is-part-distinct-requires c κs = let start = c.before.before.before.before.before in
-    (start.requires.0, start.requires.1.few, start.requires.1.begun, start.requires.1.chained.linked)
+is-part-distinct-requires : tie.Need-is_part_distinct-requires
+is-part-distinct-requires c κs = (c.requires.0, c.requires.1.few, c.requires.1.begun, c.requires.1.chained.linked)
 
-returns : tie.Need-returns
-returns c = let start = c.before.before.before.before.before.before.before in
-    let a = start.args in
-    sym (repeated_more a.table.now a.list.now a.from a.count a.count a.size start.requires.4 (sym c.before.is-part-distinct.ensures ∙ not-true c.before.is-part-distinct.result c.if1.true))
+returns : tie.Need-returns-then-not-is_part_distinct
+returns c = let a = c.args in
+    sym (repeated_more a.table.now a.list.now a.from a.count a.count a.size c.requires.4 (sym c.is_part_distinct.ensures ∙ c.if-not-is_part_distinct.true))
 
-is-unrepeated-requires : tie.Need-is-unrepeated-requires
-is-unrepeated-requires c κs = let start = c.before.before.before.before.before.before.before in
-    (start.requires.0, start.requires.1, sym c.before.is-part-distinct.ensures ∙ not-false c.before.is-part-distinct.result c.if1.false, start.requires.2, start.requires.3, start.requires.4, start.requires.5)
+is-unrepeated-requires : tie.Need-is_unrepeated-requires
+is-unrepeated-requires c κs = (c.requires.0, c.requires.1, sym c.is_part_distinct.ensures ∙ c.if-not-is_part_distinct.false, c.requires.2, c.requires.3, c.requires.4, c.requires.5)
 
-returns-2 : tie.Need-returns-2
-returns-2 c = c.is-unrepeated.ensures
+returns-2 : tie.Need-returns
+returns-2 c = c.is_unrepeated.ensures
 
-pub is-part-unrepeated-spec : {M : Type 1} → statement M
-is-part-unrepeated-spec =
+pub is_part_unrepeated_spec : {M : Type 1} → statement M
+is_part_unrepeated_spec =
     tie.close
     (tie.spec
     is-part-distinct-requires

@@ -15,81 +15,79 @@ use Rattle.scanning.specs.Scans.{words_at, run_at, start_from, WordBegins}
 use Rattle.list_rules.proofs.is_unrepeated.Statement.{statement}
 use Rattle.list_rules.proofs.is_unrepeated.Tie as tie
 
-abbrev invariant-loop : tie.invariant-loop
+abbrev invariant-loop : tie.invariant-loop-word
 invariant-loop table list from count heads links starts behind size at₀ word₀ at word =
     (count ≤ word) × (word ≤ size) × WordBegins table list at × (words_at table list at ≡ drop word (words_at table list from))
     × ((q : ℕ) → q < word → is_own table list from count q ≡ true)
 
-abbrev decreases-loop : tie.decreases-loop
+abbrev decreases-loop : tie.decreases-loop-word
 decreases-loop table list from count heads links starts behind size at₀ word₀ at word = size - word
 
-next_of : (c : tie.In-loop invariant-loop decreases-loop) → Next c.before.before.before.before.before.before.before.args.table.now c.before.before.before.before.before.before.before.args.list.now c.before.loop.at
+next_of : (c : tie.In-loop-word invariant-loop decreases-loop) → Next c.args.table.now c.args.list.now c.loop-word.at
 next_of c =
-    let start = c.before.before.before.before.before.before.before in
-    let a = start.args in
-    let loop = c.before.loop in
-    next a.table.now a.list.now loop.at loop.invariant.2 (some_left a.table.now a.list.now loop.at (omega (arith, c.loop-test.true, ap length loop.invariant.3, length-drop loop.word (words_at a.table.now a.list.now a.from), start.requires.6)))
+    let a = c.args in
+    let loop = c.loop-word in
+    next a.table.now a.list.now loop.at loop.invariant.2 (some_left a.table.now a.list.now loop.at (omega (arith, c.loop-word-test.true, ap length loop.invariant.3, length-drop loop.word (words_at a.table.now a.list.now a.from), c.requires.6)))
 
 -- the next word begins behind the end of this one
-stepped : (c : tie.After-word-start invariant-loop decreases-loop) → c.word-start.result ≡ start_from c.before.before.before.before.before.before.before.before.before.before.before.args.table.now c.before.before.before.before.before.before.before.before.before.before.before.args.list.now
-    (c.before.before.before.before.before.loop.at + length (run_at c.before.before.before.before.before.before.before.before.before.before.before.args.table.now c.before.before.before.before.before.before.before.before.before.before.before.args.list.now c.before.before.before.before.before.loop.at))
-stepped c = c.word-start.ensures ∙ ap (start_from c.before.before.before.before.before.before.before.before.before.before.before.args.table.now c.before.before.before.before.before.before.before.before.before.before.before.args.list.now) c.before.before.before.scan-word.ensures.0
+stepped : (c : tie.After-word_start-at invariant-loop decreases-loop) → c.word_start-at.result ≡ start_from c.args.table.now c.args.list.now
+    (c.loop-word.at + length (run_at c.args.table.now c.args.list.now c.loop-word.at))
+stepped c = c.word_start-at.ensures ∙ ap (start_from c.args.table.now c.args.list.now) c.scan_word-scan.ensures.0
 
 -- where the word at the position is found
-found_of : (c : tie.After-find invariant-loop decreases-loop) → c.find.result ≡ index_in c.before.before.before.before.before.before.before.before.before.args.table.now c.before.before.before.before.before.before.before.before.before.args.list.now c.before.before.before.before.before.before.before.before.before.args.from c.before.before.before.before.before.before.before.before.before.args.count (spelled_at c.before.before.before.before.before.before.before.before.before.args.table.now c.before.before.before.before.before.before.before.before.before.args.list.now c.before.before.before.before.before.before.before.before.before.args.from c.before.before.before.loop.word)
+found_of : (c : tie.After-find-found invariant-loop decreases-loop) → c.find-found.result ≡ index_in c.args.table.now c.args.list.now c.args.from c.args.count (spelled_at c.args.table.now c.args.list.now c.args.from c.loop-word.word)
 found_of c =
-    let a = c.before.before.before.before.before.before.before.before.before.args in
-    c.find.ensures
+    let a = c.args in
+    c.find-found.ensures
     ∙ ap (index_in a.table.now a.list.now a.from a.count)
-    (sym (spelled_here a.table.now a.list.now a.from c.before.before.before.loop.at c.before.before.before.loop.word _ c.before.before.before.loop.invariant.3 (next_of c.before.before).words))
+    (sym (spelled_here a.table.now a.list.now a.from c.loop-word.at c.loop-word.word _ c.loop-word.invariant.3 (next_of (c.before.before)).words))
 
-loop-holds : tie.Need-loop-init invariant-loop decreases-loop
-loop-holds c = let start = c.before.before.before.before.before in
-    let a = start.args in
-    (omega arith, start.requires.5, start.requires.3, start.requires.4, λ q h. unrepeated_own a.table.now a.list.now a.from a.count a.count q start.requires.2 h)
+loop-holds : tie.Need-loop-word-init invariant-loop decreases-loop
+loop-holds c = let a = c.args in
+    (omega arith, c.requires.5, c.requires.3, c.requires.4, λ q h. unrepeated_own a.table.now a.list.now a.from a.count a.count q c.requires.2 h)
 
-scan-word-requires : tie.Need-scan-word-requires invariant-loop decreases-loop
-scan-word-requires c κs = (c.before.before.before.before.before.before.before.requires.0, c.before.loop.invariant.2.inside)
+scan-word-requires : tie.Need-scan_word-scan-requires invariant-loop decreases-loop
+scan-word-requires c κs = (c.requires.0, c.loop-word.invariant.2.inside)
 
-find-requires : tie.Need-find-requires invariant-loop decreases-loop
-find-requires c κs = (c.before.before.before.before.before.before.before.before.requires.0, c.before.before.before.before.before.before.before.before.requires.1, c.before.before.loop.invariant.2.inside, c.scan-word.ensures.1)
+find-requires : tie.Need-find-found-requires invariant-loop decreases-loop
+find-requires c κs = (c.requires.0, c.requires.1, c.loop-word.invariant.2.inside, c.scan_word-scan.ensures.1)
 
-returns : tie.Need-returns invariant-loop decreases-loop
-returns c = let a = c.before.before.before.before.before.before.before.before.before.before.args in
-    let loop = c.before.before.before.before.loop in
-    let f = found_of c.before in
-    sym (unrepeated_not a.table.now a.list.now a.from a.count a.size loop.word c.before.before.before.loop-test.true
-    (own_not a.table.now a.list.now a.from a.count loop.word (omega (arith, f, c.if1.true)) (λ q. omega (arith, index_most a.table.now a.list.now a.from (spelled_at a.table.now a.list.now a.from loop.word) a.count, loop.invariant.0, q))))
+returns : tie.Need-returns-then-found-gt0 invariant-loop decreases-loop
+returns c = let a = c.args in
+    let loop = c.loop-word in
+    let f = found_of (c.before) in
+    sym (unrepeated_not a.table.now a.list.now a.from a.count a.size loop.word c.loop-word-test.true
+    (own_not a.table.now a.list.now a.from a.count loop.word (omega (arith, f, c.if-found-gt0.true)) (λ q. omega (arith, index_most a.table.now a.list.now a.from (spelled_at a.table.now a.list.now a.from loop.word) a.count, loop.invariant.0, q))))
 
-add-word : tie.Need-overflow-add-word invariant-loop decreases-loop
+add-word : tie.Need-overflow_add-word invariant-loop decreases-loop
 add-word c = search rules
 
-word-start-requires : tie.Need-word-start-requires invariant-loop decreases-loop
-word-start-requires c κs = (c.before.before.before.before.before.before.before.before.before.before.requires.0, rw c.before.before.scan-word.ensures.0 (next_of c.before.before.before).inside)
+word-start-requires : tie.Need-word_start-at-requires invariant-loop decreases-loop
+word-start-requires c κs = (c.requires.0, rw c.scan_word-scan.ensures.0 (next_of (c.before.before.before)).inside)
 
-loop-less : tie.Need-loop-smaller invariant-loop decreases-loop
+loop-less : tie.Need-loop-word-smaller invariant-loop decreases-loop
 loop-less c = search rules
 
-loop-again : tie.Need-loop-preserved invariant-loop decreases-loop
-loop-again c = let a = c.before.before.before.before.before.before.before.before.before.before.before.args in
-    let loop = c.before.before.before.before.before.loop in
-    let n = next_of c.before.before.before.before in
-    let f = found_of c.before.before in (
+loop-again : tie.Need-loop-word-preserved invariant-loop decreases-loop
+loop-again c = let a = c.args in
+    let loop = c.loop-word in
+    let n = next_of (c.before.before.before.before) in
+    let f = found_of (c.before.before) in (
       omega (arith, loop.invariant.0),
-      omega (arith, c.before.before.before.before.loop-test.true),
+      omega (arith, c.loop-word-test.true),
       rw (stepped c) n.begun,
       ap (words_at a.table.now a.list.now) (stepped c) ∙ left_next (words_at a.table.now a.list.now a.from) _ _ _ loop.word loop.invariant.3 n.words,
-      below_more _ loop.word loop.invariant.4 (own_none a.table.now a.list.now a.from a.count loop.word (sym f ∙ none c.before.before.find.result c.before.if1.false)),
+      below_more _ loop.word loop.invariant.4 (own_none a.table.now a.list.now a.from a.count loop.word (sym f ∙ none c.find-found.result c.if-found-gt0.false)),
     )
 
-returns-2 : tie.Need-returns-2 invariant-loop decreases-loop
-returns-2 c = let a = c.before.before.before.before.before.before.before.args in
-    let loop = c.before.loop in
-    let e : loop.word ≡ a.size = omega (arith, loop.invariant.1, c.loop-test.false) in
+returns-2 : tie.Need-returns invariant-loop decreases-loop
+returns-2 c = let a = c.args in
+    let loop = c.loop-word in
+    let e : loop.word ≡ a.size = omega (arith, loop.invariant.1, c.loop-word-test.false) in
     sym (unrepeated_yes a.table.now a.list.now a.from a.count a.size (rw (← e) loop.invariant.4))
 
-pub is-unrepeated-spec : {M : Type 1} → statement M
-is-unrepeated-spec =
+pub is_unrepeated_spec : {M : Type 1} → statement M
+is_unrepeated_spec =
     tie.close
     (tie.spec
     invariant-loop

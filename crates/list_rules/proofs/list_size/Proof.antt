@@ -14,42 +14,41 @@ use Rattle.lexicon.specs.Lexicon.{list_size}
 use Rattle.list_rules.proofs.list_size.Statement.{statement}
 use Rattle.list_rules.proofs.list_size.Tie as tie
 
-abbrev invariant-loop : tie.invariant-loop
+abbrev invariant-loop : tie.invariant-loop-at
 invariant-loop list words₀ at₀ words at = (at ≤ length list) × (words ≤ at) × (words ≡ count_of line_feed (take at list))
 
-abbrev decreases-loop : tie.decreases-loop
+abbrev decreases-loop : tie.decreases-loop-at
 decreases-loop list words₀ at₀ words at = length list - at
 
-loop-holds : tie.Need-loop-init invariant-loop decreases-loop
+loop-holds : tie.Need-loop-at-init invariant-loop decreases-loop
 loop-holds c = (omega arith, omega arith, refl)
 
-shared-slice-read-if1 : tie.Need-shared-slice-read-if1 invariant-loop decreases-loop
+shared-slice-read-if1 : tie.Need-bounds-list-at invariant-loop decreases-loop
 shared-slice-read-if1 c = search rules
 
-add_words : tie.Need-overflow-add-words invariant-loop decreases-loop
+add_words : tie.Need-overflow_add-words invariant-loop decreases-loop
 add_words c = search rules
 
-add_at : tie.Need-overflow-add-at invariant-loop decreases-loop
+add_at : tie.Need-overflow_add-at invariant-loop decreases-loop
 add_at c = search rules
 
-loop-less : tie.Need-loop-smaller invariant-loop decreases-loop
+loop-less : tie.Need-loop-at-smaller invariant-loop decreases-loop
 loop-less c = search rules
 
-loop-again : tie.Need-loop-preserved invariant-loop decreases-loop
-loop-again c = let start = c.before.before.before.before in
-    let loop = c.before.before.before.loop in
-    let h : loop.at < length start.args.list.now = c.before.before.loop-test.true in
+loop-again : tie.Need-loop-at-preserved invariant-loop decreases-loop
+loop-again c = let loop = c.loop-at in
+    let h : loop.at < length c.args.list.now = c.loop-at-test.true in
     ⊎_elim
-    (λ w. (omega arith, omega arith, omega (arith, add-one loop.at, ap (λ (n : ℕ). count_of line_feed (take n start.args.list.now)) (add-one loop.at), count_hit line_feed start.args.list.now loop.at h w.0.taken, w.1, loop.invariant.2)))
-    (λ w. (omega arith, omega arith, omega (arith, add-one loop.at, ap (λ (n : ℕ). count_of line_feed (take n start.args.list.now)) (add-one loop.at), count_miss line_feed start.args.list.now loop.at h w.0.left, w.1, loop.invariant.2)))
-    c.if1.branch
+    (λ w. (omega arith, omega arith, omega (arith, add-one loop.at, ap (λ (n : ℕ). count_of line_feed (take n c.args.list.now)) (add-one loop.at), count_hit line_feed c.args.list.now loop.at h w.if-list-at-eq10.true, w.words-is, loop.invariant.2)))
+    (λ w. (omega arith, omega arith, omega (arith, add-one loop.at, ap (λ (n : ℕ). count_of line_feed (take n c.args.list.now)) (add-one loop.at), count_miss line_feed c.args.list.now loop.at h w.if-list-at-eq10.false, w.words-is, loop.invariant.2)))
+    c.if-list-at-eq10.branch-raw
 
 returns : tie.Need-returns invariant-loop decreases-loop
 unfolding list_size
-returns c = c.before.loop.invariant.2 ∙ ap (count_of line_feed) (take_all c.before.loop.at c.before.before.args.list.now c.loop-test.false)
+returns c = c.loop-at.invariant.2 ∙ ap (count_of line_feed) (take_all c.loop-at.at c.args.list.now c.loop-at-test.false)
 
-pub list-size-spec : {M : Type 1} → statement M
-list-size-spec =
+pub list_size_spec : {M : Type 1} → statement M
+list_size_spec =
     tie.close
     (tie.spec
     invariant-loop

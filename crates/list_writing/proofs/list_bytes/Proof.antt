@@ -12,93 +12,90 @@ use Rattle.list_calls.specs.Making.{list_of, made_words}
 use Rattle.list_writing.proofs.list_bytes.Statement.{statement}
 use Rattle.list_writing.proofs.list_bytes.Tie as tie
 
-abbrev invariant-loop : tie.invariant-loop
+abbrev invariant-loop : tie.invariant-loop-rank
 invariant-loop table text starts order words bytes₀ rank₀ bytes rank = (rank ≤ words) × (bytes ≡ length (list_of (take rank (made_words table text))))
 
-abbrev decreases-loop : tie.decreases-loop
+abbrev decreases-loop : tie.decreases-loop-rank
 decreases-loop table text starts order words bytes₀ rank₀ bytes rank = words - rank
 
 -- a rank is below the number of words
-below : (c : tie.In-loop invariant-loop decreases-loop) → c.before.loop.rank < length (made_words c.before.before.before.before.before.before.args.table.now c.before.before.before.before.before.before.args.text.now)
-below c = omega (arith, c.loop-test.true, c.before.before.before.before.before.before.requires.2)
+below : (c : tie.In-loop-rank invariant-loop decreases-loop) → c.loop-rank.rank < length (made_words c.args.table.now c.args.text.now)
+below c = omega (arith, c.loop-rank-test.true, c.requires.2)
 
 -- the bytes with those of the word at the rank
-longer : (c : tie.After-scan-word invariant-loop decreases-loop) → c.before.before.before.before.loop.bytes + (c.scan-word.result.end - get_or c.before.before.before.before.before.before.before.before.before.args.starts.now (get_or c.before.before.before.before.before.before.before.before.before.args.order.now c.before.before.before.before.loop.rank 0) 0 + 1)
-    ≡ length (list_of (take (c.before.before.before.before.loop.rank + 1) (made_words c.before.before.before.before.before.before.before.before.before.args.table.now c.before.before.before.before.before.before.before.before.before.args.text.now)))
+longer : (c : tie.After-scan_word-scan invariant-loop decreases-loop) → c.loop-rank.bytes + (c.scan_word-scan.result.end - get_or c.args.starts.now (get_or c.args.order.now c.loop-rank.rank 0) 0 + 1)
+    ≡ length (list_of (take (c.loop-rank.rank + 1) (made_words c.args.table.now c.args.text.now)))
 longer c =
-    let start = c.before.before.before.before.before.before.before.before.before in
-    let a = start.args in
-    let loop = c.before.before.before.before.loop in
-    let h = below c.before.before.before in
+    let a = c.args in
+    let loop = c.loop-rank in
+    let h = below (c.before.before.before) in
     omega (
       arith,
       loop.invariant.1,
-      c.scan-word.ensures.0,
+      c.scan_word-scan.ensures.0,
       bytes_next (made_words a.table.now a.text.now) loop.rank h,
-      ap length (start.requires.1.word loop.rank h).1,
+      ap length (c.requires.1.word loop.rank h).1,
     )
 
 -- and these are not too many
-few : (c : tie.After-scan-word invariant-loop decreases-loop) → c.before.before.before.before.loop.bytes + (c.scan-word.result.end - get_or c.before.before.before.before.before.before.before.before.before.args.starts.now (get_or c.before.before.before.before.before.before.before.before.before.args.order.now c.before.before.before.before.loop.rank 0) 0 + 1) ≤ 65537
+few : (c : tie.After-scan_word-scan invariant-loop decreases-loop) → c.loop-rank.bytes + (c.scan_word-scan.result.end - get_or c.args.starts.now (get_or c.args.order.now c.loop-rank.rank 0) 0 + 1) ≤ 65537
 few c =
-    let start = c.before.before.before.before.before.before.before.before.before in
-    let a = start.args in
+    let a = c.args in
     omega (
       arith,
       longer c,
-      bytes_most (made_words a.table.now a.text.now) (c.before.before.before.before.loop.rank + 1),
+      bytes_most (made_words a.table.now a.text.now) (c.loop-rank.rank + 1),
       ap length (made_list_lem a.table.now a.text.now),
       made_fits a.table.now a.text.now,
-      start.requires.3,
+      c.requires.3,
     )
 
-loop-holds : tie.Need-loop-init invariant-loop decreases-loop
+loop-holds : tie.Need-loop-rank-init invariant-loop decreases-loop
 loop-holds c = (omega arith, sym (ap length list_none))
 
-mul-place : tie.Need-overflow-mul-place invariant-loop decreases-loop
-mul-place c = omega (arith, (c.before.before.before.before.before.before.requires.1.inside c.before.loop.rank (below c)).0)
+mul-place : tie.Need-offset_bounds-order-rank invariant-loop decreases-loop
+mul-place c = omega (arith, (c.requires.1.inside c.loop-rank.rank (below c)).0)
 
-shared-slice-read-place : tie.Need-shared-slice-read-place invariant-loop decreases-loop
-shared-slice-read-place c = (c.before.before.before.before.before.before.before.requires.1.inside c.before.before.loop.rank (below c.before)).0
+shared-slice-read-place : tie.Need-bounds-order-rank invariant-loop decreases-loop
+shared-slice-read-place c = (c.requires.1.inside c.loop-rank.rank (below (c.before))).0
 
-cast-place : tie.Need-overflow-cast-place invariant-loop decreases-loop
-cast-place c = omega (arith, c.shared-slice-known5.given c.before.before.loop.rank)
+cast-place : tie.Need-overflow_cast-place invariant-loop decreases-loop
+cast-place c = omega (arith, c.shared_slice_known-in-loop-rank-1.given c.loop-rank.rank)
 
-mul-start : tie.Need-overflow-mul-start invariant-loop decreases-loop
-mul-start c = omega (arith, (c.before.before.before.before.before.before.before.requires.1.inside c.before.before.loop.rank (below c.before)).1)
+mul-start : tie.Need-offset_bounds-starts-place invariant-loop decreases-loop
+mul-start c = omega (arith, (c.requires.1.inside c.loop-rank.rank (below (c.before))).1)
 
-shared-slice-read-start : tie.Need-shared-slice-read-start invariant-loop decreases-loop
-shared-slice-read-start c = (c.before.before.before.before.before.before.before.before.requires.1.inside c.before.before.before.loop.rank (below c.before.before)).1
+shared-slice-read-start : tie.Need-bounds-starts-place invariant-loop decreases-loop
+shared-slice-read-start c = (c.requires.1.inside c.loop-rank.rank (below (c.before.before))).1
 
-scan-word-requires : tie.Need-scan-word-requires invariant-loop decreases-loop
-scan-word-requires c κs = (c.before.before.before.before.before.before.before.before.requires.0, (c.before.before.before.before.before.before.before.before.requires.1.word c.before.before.before.loop.rank (below c.before.before)).0)
+scan-word-requires : tie.Need-scan_word-scan-requires invariant-loop decreases-loop
+scan-word-requires c κs = (c.requires.0, (c.requires.1.word c.loop-rank.rank (below (c.before.before))).0)
 
-sub-bytes : tie.Need-overflow-sub-bytes invariant-loop decreases-loop
-sub-bytes c = omega (arith, c.scan-word.ensures.0)
+sub-bytes : tie.Need-overflow_sub-bytes invariant-loop decreases-loop
+sub-bytes c = omega (arith, c.scan_word-scan.ensures.0)
 
-add-bytes : tie.Need-overflow-add-bytes invariant-loop decreases-loop
+add-bytes : tie.Need-overflow_add-bytes invariant-loop decreases-loop
 add-bytes c = omega (arith, few c)
 
-add-bytes-2 : tie.Need-overflow-add-bytes-2 invariant-loop decreases-loop
+add-bytes-2 : tie.Need-overflow_add-bytes-in-loop-rank invariant-loop decreases-loop
 add-bytes-2 c = omega (arith, few c)
 
-add-rank : tie.Need-overflow-add-rank invariant-loop decreases-loop
+add-rank : tie.Need-overflow_add-rank invariant-loop decreases-loop
 add-rank c = search rules
 
-loop-less : tie.Need-loop-smaller invariant-loop decreases-loop
+loop-less : tie.Need-loop-rank-smaller invariant-loop decreases-loop
 loop-less c = search rules
 
-loop-again : tie.Need-loop-preserved invariant-loop decreases-loop
-loop-again c = (omega (arith, c.before.before.before.loop-test.true), longer c)
+loop-again : tie.Need-loop-rank-preserved invariant-loop decreases-loop
+loop-again c = (omega (arith, c.loop-rank-test.true), longer c)
 
 returns : tie.Need-returns invariant-loop decreases-loop
-returns c = let start = c.before.before.before.before.before.before in
-    let W = made_words start.args.table.now start.args.text.now in
-    c.before.loop.invariant.1 ∙ ap (λ (ws : List (List ℕ)). length (list_of ws)) (take_all c.before.loop.rank W (omega (arith, c.loop-test.false, start.requires.2)))
-    ∙ sym (ap length (made_list_lem start.args.table.now start.args.text.now))
+returns c = let W = made_words c.args.table.now c.args.text.now in
+    c.loop-rank.invariant.1 ∙ ap (λ (ws : List (List ℕ)). length (list_of ws)) (take_all c.loop-rank.rank W (omega (arith, c.loop-rank-test.false, c.requires.2)))
+    ∙ sym (ap length (made_list_lem c.args.table.now c.args.text.now))
 
-pub list-bytes-spec : {M : Type 1} → statement M
-list-bytes-spec =
+pub list_bytes_spec : {M : Type 1} → statement M
+list_bytes_spec =
     tie.close
     (tie.spec
     invariant-loop

@@ -27,62 +27,59 @@ few_words c = omega (arith, words_fit c.args.table.now c.args.text.now, c.requir
 few-distinct : (c : tie.Start) → length (made_words c.args.table.now c.args.text.now) ≤ max_list_words
 few-distinct c = omega (arith, c.requires.number, c.requires.few)
 
-list-bytes-requires : tie.Need-list-bytes-requires
+list-bytes-requires : tie.Need-list_bytes-bytes-requires
 list-bytes-requires c κs = search rules
 
 refused-requires : tie.Need-refused-requires
 refused-requires c κs = search rules
 
-without-list-requires : tie.Need-without-list-requires
+without-list-requires : tie.Need-without_list-requires
 without-list-requires c κs = search rules
 
-returns : tie.Need-returns
-returns c = let start = c.before.before.before.before.before.before.before.before.before.before.before.before in
-    let a = start.args in
-    let w = c.without-list.ensures in
+returns : tie.Need-returns-then-list-bytes
+returns c = let a = c.args in
+    let w = c.without_list.ensures in
     list_refused a.table.now a.text.now a.list.now a.ranks.now (refused refusal_short_slice) refl
-    (list_too_long a.table.now a.text.now a.list.now a.ranks.now (few_words start) start.requires.short (few-distinct start) (rw c.before.before.before.list-bytes.ensures at c.before.before.if1.true))
-    c.without-list.result (w.0 ∙ c.before.refused.ensures) w.1 w.2
+    (list_too_long a.table.now a.text.now a.list.now a.ranks.now (few_words (c.before.before.before.before.before.before.before.before.before.before.before.before)) c.requires.short (few-distinct (c.before.before.before.before.before.before.before.before.before.before.before.before)) (rw c.list_bytes-bytes.ensures at c.if-list-bytes.true))
+    c.without_list.result (w.0 ∙ c.refused.ensures) w.1 w.2
 
-refused-requires-2 : tie.Need-refused-requires-2
+refused-requires-2 : tie.Need-refused-requires-then-ranks-size
 refused-requires-2 c κs = search rules
 
-without-list-requires-2 : tie.Need-without-list-requires-2
+without-list-requires-2 : tie.Need-without_list-requires-then-ranks-size
 without-list-requires-2 c κs = search rules
 
-returns-2 : tie.Need-returns-2
-returns-2 c = let start = c.before.before.before.before.before.before.before.before.before.before.before.before.before in
-    let a = start.args in
-    let w = c.without-list2.ensures in
+returns-2 : tie.Need-returns-then-ranks-size
+returns-2 c = let a = c.args in
+    let w = c.without_list-then-ranks-size.ensures in
     list_refused a.table.now a.text.now a.list.now a.ranks.now (refused refusal_short_slice) refl
-    (ranks_too_long a.table.now a.text.now a.list.now a.ranks.now (few_words start) start.requires.short (few-distinct start) (rw (sized start) at c.before.before.if2.true))
-    c.without-list2.result (w.0 ∙ c.before.refused2.ensures) w.1 w.2
+    (ranks_too_long a.table.now a.text.now a.list.now a.ranks.now (few_words (c.before.before.before.before.before.before.before.before.before.before.before.before.before)) c.requires.short (few-distinct (c.before.before.before.before.before.before.before.before.before.before.before.before.before)) (rw (sized (c.before.before.before.before.before.before.before.before.before.before.before.before.before)) at c.if-ranks-size.true))
+    c.without_list-then-ranks-size.result (w.0 ∙ c.refused-then-ranks-size.ensures) w.1 w.2
 
-write-list-requires : tie.Need-write-list-requires
+write-list-requires : tie.Need-write_list-requires
 write-list-requires c κs = search rules
 
-look-up-requires : tie.Need-look-up-requires
+look-up-requires : tie.Need-look_up-requires
 look-up-requires c κs = search rules
 
-accepted-requires : tie.Need-accepted-requires
+accepted-requires : tie.Need-accepted-answer-requires
 accepted-requires c κs = search rules
 
-same_length : tie.Need-same-length
+same_length : tie.Need-shape_of-list
 same_length c = search rules
 
-same-length-2 : tie.Need-same-length-2
+same-length-2 : tie.Need-shape_of-ranks
 same-length-2 c = search rules
 
-returns-3 : tie.Need-returns-3
-returns-3 c = let start = c.before.before.before.before.before.before.before.before.before.before.before.before.before.before.before.before.before.before.before.before in
-    let a = start.args in
+returns-3 : tie.Need-returns
+returns-3 c = let a = c.args in
     list_accepted a.table.now a.text.now a.list.now a.ranks.now
-    (makes a.table.now a.text.now a.list.now a.ranks.now (few_words start) start.requires.short (few-distinct start) (rw c.before.before.before.before.before.before.before.before.before.before.before.list-bytes.ensures at c.before.before.before.before.before.before.before.before.before.before.if1.false) (rw (sized start) at c.before.before.before.before.before.before.before.before.before.if2.false))
-    _ _ _ c.accepted.ensures c.before.before.before.before.before.before.before.before.before.before.before.list-bytes.ensures (sized start) c.before.before.before.before.before.before.before.write-list.ensures
-    (c.before.before.before.look_up.ensures ∙ ap (λ (xs : List ℕ). front xs a.ranks.now) start.requires.ranked)
+    (makes a.table.now a.text.now a.list.now a.ranks.now (few_words (c.before.before.before.before.before.before.before.before.before.before.before.before.before.before.before.before.before.before.before.before)) c.requires.short (few-distinct (c.before.before.before.before.before.before.before.before.before.before.before.before.before.before.before.before.before.before.before.before)) (rw c.list_bytes-bytes.ensures at c.if-list-bytes.false) (rw (sized (c.before.before.before.before.before.before.before.before.before.before.before.before.before.before.before.before.before.before.before.before)) at c.if-ranks-size.false))
+    _ _ _ c.accepted-answer.ensures c.list_bytes-bytes.ensures (sized (c.before.before.before.before.before.before.before.before.before.before.before.before.before.before.before.before.before.before.before.before)) c.write_list.ensures
+    (c.look_up.ensures ∙ ap (λ (xs : List ℕ). front xs a.ranks.now) c.requires.ranked)
 
-pub write-made-spec : {M : Type 1} → statement M
-write-made-spec =
+pub write_made_spec : {M : Type 1} → statement M
+write_made_spec =
     tie.close
     (tie.spec
     list-bytes-requires

@@ -8,5 +8,8 @@ returns : tie.Need-returns
 unfolding same_sizes
 returns c = refl
 
-pub same-sizes-spec : {M : Type 1} → statement M
-same-sizes-spec = tie.close (tie.spec returns)
+pub same_sizes_spec : {M : Type 1} → statement M
+same_sizes_spec =
+    tie.close
+    (tie.spec
+    returns)

@@ -6,5 +6,8 @@ use Rattle.measuring.proofs.without_sizes.Tie as tie
 returns : tie.Need-returns
 returns c = (refl, refl)
 
-pub without-sizes-spec : {M : Type 1} → statement M
-without-sizes-spec = tie.close (tie.spec returns)
+pub without_sizes_spec : {M : Type 1} → statement M
+without_sizes_spec =
+    tie.close
+    (tie.spec
+    returns)

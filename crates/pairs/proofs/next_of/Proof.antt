@@ -5,13 +5,17 @@ use Rattle.pairs.proofs.Pairs.{pair_itself}
 use Rattle.pairs.proofs.next_of.Statement.{statement}
 use Rattle.pairs.proofs.next_of.Tie as tie
 
-next-pair-requires : tie.Need-next-pair-requires
+next-pair-requires : tie.Need-next_pair-requires
 next-pair-requires c κs = search rules
 
 returns : tie.Need-returns
 returns c =
-    let a = c.before.before.args in
-    c.next-pair.ensures ∙ pair_itself a.byte a.part.now
+    let a = c.args in
+    c.next_pair.ensures ∙ pair_itself a.byte a.part.now
 
-pub next-of-spec : {M : Type 1} → statement M
-next-of-spec = tie.close (tie.spec next-pair-requires returns)
+pub next_of_spec : {M : Type 1} → statement M
+next_of_spec =
+    tie.close
+    (tie.spec
+    next-pair-requires
+    returns)

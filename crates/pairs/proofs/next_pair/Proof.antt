@@ -9,116 +9,113 @@ use Rattle.pairs.proofs.Pairs.{pair_most, pair_part, part_same}
 use Rattle.pairs.proofs.next_pair.Statement.{statement}
 use Rattle.pairs.proofs.next_pair.Tie as tie
 
-abbrev invariant-loop : tie.invariant-loop
+abbrev invariant-loop : tie.invariant-loop-i
 invariant-loop here there x y i₀ i = (i ≤ length here) × (i ≤ first_pair x y here there)
 
-abbrev decreases-loop : tie.decreases-loop
+abbrev decreases-loop : tie.decreases-loop-i
 decreases-loop here there x y i₀ i = length here - i
 
 -- the first pair, or the stop where that is not before it
-found : (c : tie.After-first-few invariant-loop decreases-loop) → let a = c.before.before.before.before.before.before.before.args in let i = c.before.before.before.before.loop.i in i + c.first-few.result ≡ min (i + 128) (first_pair a.x a.y a.here.now a.there.now)
+found : (c : tie.After-first_few invariant-loop decreases-loop) → let a = c.args in let i = c.loop-i.i in i + c.first_few.result ≡ min (i + 128) (first_pair a.x a.y a.here.now a.there.now)
 found c =
-    let a = c.before.before.before.before.before.before.before.args in
-    let l = c.before.before.before.before.loop in
-    omega (arith, c.first-few.ensures, pair_part a.x a.y l.i (l.i + 128 - l.i) a.here.now a.there.now l.invariant.1)
+    let a = c.args in
+    let l = c.loop-i in
+    omega (arith, c.first_few.ensures, pair_part a.x a.y l.i (l.i + 128 - l.i) a.here.now a.there.now l.invariant.1)
 
 -- the first pair, in what is left after the pieces
-found-last : (c : tie.After-first-few2 invariant-loop decreases-loop) → let a = c.before.before.before.before.before.before.before.args in c.before.before.before.before.loop.i + c.first-few2.result ≡ first_pair a.x a.y a.here.now a.there.now
+found-last : (c : tie.After-first_few-2 invariant-loop decreases-loop) → let a = c.args in c.loop-i.i + c.first_few-2.result ≡ first_pair a.x a.y a.here.now a.there.now
 found-last c =
-    let s = c.before.before.before.before.before.before.before in
-    let a = s.args in
-    let l = c.before.before.before.before.loop in
-    let e = rw (← s.requires) at c.first-few2.ensures in
+    let a = c.args in
+    let l = c.loop-i in
+    let e = rw (← c.requires) at c.first_few-2.ensures in
     omega (arith, e, pair_part a.x a.y l.i (length a.here.now - l.i) a.here.now a.there.now l.invariant.1, pair_most a.x a.y a.here.now a.there.now)
 
-loop-holds : tie.Need-loop-init invariant-loop decreases-loop
+loop-holds : tie.Need-loop-i-init invariant-loop decreases-loop
 loop-holds c = search rules
 
-sub-loop : tie.Need-overflow-sub-loop invariant-loop decreases-loop
+sub-loop : tie.Need-overflow_sub-here invariant-loop decreases-loop
 sub-loop c = search rules
 
-add-stop : tie.Need-overflow-add-stop invariant-loop decreases-loop
+add-stop : tie.Need-overflow_add-stop invariant-loop decreases-loop
 add-stop c = search rules
 
-sub-first-few : tie.Need-overflow-sub-first-few invariant-loop decreases-loop
+sub-first-few : tie.Need-slice_bounds-first_few-count invariant-loop decreases-loop
 sub-first-few c = search rules
 
-part-first-few-start : tie.Need-slice-bounds-first-few-start invariant-loop decreases-loop
+part-first-few-start : tie.Need-slice_bounds-first_few-start invariant-loop decreases-loop
 part-first-few-start c = search rules
 
-part-first-few-end : tie.Need-slice-bounds-first-few-end invariant-loop decreases-loop
+part-first-few-end : tie.Need-slice_bounds-first_few-end invariant-loop decreases-loop
 part-first-few-end c = search rules
 
-sub-first-few-2 : tie.Need-overflow-sub-first-few-2 invariant-loop decreases-loop
+sub-first-few-2 : tie.Need-slice_bounds-first_few-count-in-loop-i invariant-loop decreases-loop
 sub-first-few-2 c = search rules
 
-part-first-few-start-2 : tie.Need-slice-bounds-first-few-start-2 invariant-loop decreases-loop
+part-first-few-start-2 : tie.Need-slice_bounds-first_few-start-in-loop-i invariant-loop decreases-loop
 part-first-few-start-2 c = search rules
 
-part-first-few-end-2 : tie.Need-slice-bounds-first-few-end-2 invariant-loop decreases-loop
+part-first-few-end-2 : tie.Need-slice_bounds-first_few-end-in-loop-i invariant-loop decreases-loop
 part-first-few-end-2 c = search rules
 
-first-few-requires : tie.Need-first-few-requires invariant-loop decreases-loop
+first-few-requires : tie.Need-first_few-requires invariant-loop decreases-loop
 first-few-requires c κs =
-    let s = c.before.before.before.before.before.before in
-    let a = s.args in
-    let i : ℕ = c.before.before.before.loop.i in
-    (part_same i (i + 128 - i) a.here.now a.there.now s.requires, omega (arith, length-take (i + 128 - i) (drop i a.here.now)))
+    let a = c.args in
+    let i : ℕ = c.loop-i.i in
+    (part_same i (i + 128 - i) a.here.now a.there.now c.requires, omega (arith, length-take (i + 128 - i) (drop i a.here.now)))
 
-cast-at : tie.Need-overflow-cast-at invariant-loop decreases-loop
+cast-at : tie.Need-overflow_cast-at invariant-loop decreases-loop
 cast-at c = search rules
 
-add_at : tie.Need-overflow-add-at invariant-loop decreases-loop
+add_at : tie.Need-overflow_add-at invariant-loop decreases-loop
 add_at c = search rules
 
-returns : tie.Need-returns invariant-loop decreases-loop
-returns c = omega (arith, found c.before)
+returns : tie.Need-returns-then-at-stop invariant-loop decreases-loop
+returns c = omega (arith, found (c.before))
 
-loop-less : tie.Need-loop-smaller invariant-loop decreases-loop
+loop-less : tie.Need-loop-i-smaller invariant-loop decreases-loop
 loop-less c = search rules
 
-loop-again : tie.Need-loop-preserved invariant-loop decreases-loop
-loop-again c = (omega arith, omega (arith, found c.before))
+loop-again : tie.Need-loop-i-preserved invariant-loop decreases-loop
+loop-again c = (omega arith, omega (arith, found (c.before)))
 
-sub-first-few-3 : tie.Need-overflow-sub-first-few-3 invariant-loop decreases-loop
+sub-first-few-3 : tie.Need-slice_bounds-first_few-count-2 invariant-loop decreases-loop
 sub-first-few-3 c = search rules
 
-part-first-few-start-3 : tie.Need-slice-bounds-first-few-start-3 invariant-loop decreases-loop
+part-first-few-start-3 : tie.Need-slice_bounds-first_few-start-2 invariant-loop decreases-loop
 part-first-few-start-3 c = search rules
 
-part-first-few-end-3 : tie.Need-slice-bounds-first-few-end-3 invariant-loop decreases-loop
+part-first-few-end-3 : tie.Need-slice_bounds-first_few-end-2 invariant-loop decreases-loop
 part-first-few-end-3 c = search rules
 
-sub-first-few-4 : tie.Need-overflow-sub-first-few-4 invariant-loop decreases-loop
+sub-first-few-4 : tie.Need-slice_bounds-first_few-count-3 invariant-loop decreases-loop
 sub-first-few-4 c = search rules
 
-part-first-few-start-4 : tie.Need-slice-bounds-first-few-start-4 invariant-loop decreases-loop
+part-first-few-start-4 : tie.Need-slice_bounds-first_few-start-3 invariant-loop decreases-loop
 part-first-few-start-4 c = search rules
 
-part-first-few-end-4 : tie.Need-slice-bounds-first-few-end-4 invariant-loop decreases-loop
+part-first-few-end-4 : tie.Need-slice_bounds-first_few-end-3 invariant-loop decreases-loop
 part-first-few-end-4 c = search rules
 
-first-few-requires-2 : tie.Need-first-few-requires-2 invariant-loop decreases-loop
+first-few-requires-2 : tie.Need-first_few-requires-2 invariant-loop decreases-loop
 first-few-requires-2 c κs =
-    let s = c.before.before.before.before.before.before in
-    let a = s.args in
-    let i : ℕ = c.before.before.before.loop.i in
+    let a = c.args in
+    let i : ℕ = c.loop-i.i in
     let n : ℕ = length a.here.now - i in
-    (rw (← s.requires) (part_same i n a.here.now a.there.now s.requires), omega (arith, length-take n (drop i a.here.now)))
+    (rw (← c.requires) (part_same i n a.here.now a.there.now c.requires), omega (arith, length-take n (drop i a.here.now)))
 
-cast-result : tie.Need-overflow-cast-result invariant-loop decreases-loop
+cast-result : tie.Need-overflow_cast-result invariant-loop decreases-loop
 cast-result c = search rules
 
-add-result : tie.Need-overflow-add-result invariant-loop decreases-loop
+add-result : tie.Need-overflow_add-result invariant-loop decreases-loop
 add-result c =
-    let a = c.before.before.before.before.before.before.before.args in
+    let a = c.args in
     omega (arith, found-last c, pair_most a.x a.y a.here.now a.there.now)
 
-returns-2 : tie.Need-returns-2 invariant-loop decreases-loop
+returns-2 : tie.Need-returns invariant-loop decreases-loop
 returns-2 c = found-last c
 
-pub next-pair-spec : {M : Type 1} → statement M
-next-pair-spec =
+pub next_pair_spec : {M : Type 1} → statement M
+next_pair_spec =
     tie.close
     (tie.spec
     invariant-loop

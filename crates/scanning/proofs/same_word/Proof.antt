@@ -30,7 +30,7 @@ lettered c q = c.if-letter-eq0.false (c.letter_at-letter.ensures ∙ q)
 
 loop-holds : tie.Need-loop-start-init invariant-loop decreases-loop
 loop-holds c = let a = c.args in
-    let e : a.c ≡ a.c + 0 = omega arith in
+    let e : a.start ≡ a.start + 0 = omega arith in
     let f : a.at ≡ a.at + 0 = omega arith in
     (omega (arith, c.requires.1), omega (arith, c.requires.2), ap₂ (λ (m n : ℕ). same (run_at a.table.now a.text.now m) (run_at a.table.now a.list.now n)) e f)
 

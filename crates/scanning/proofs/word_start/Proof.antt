@@ -26,11 +26,11 @@ cast-byte : tie.Need-overflow_cast-byte invariant-loop decreases-loop
 cast-byte c = omega (arith, c.shared_slice_known-1.given c.loop-start.start)
 
 shared-slice-read-if1 : tie.Need-bounds-table-byte invariant-loop decreases-loop
-shared-slice-read-if1 c = omega (arith, c.shared_slice_known-1.given c.loop-start.c, table_sized c.args.table.now c.requires.0)
+shared-slice-read-if1 c = omega (arith, c.shared_slice_known-1.given c.loop-start.start, table_sized c.args.table.now c.requires.0)
 
 returns : tie.Need-returns-then-table-byte-gt0 invariant-loop decreases-loop
 returns c = let loop = c.loop-start in
-    sym (loop.invariant.1 ∙ start_letter c.args.table.now c.args.text.now loop.c c.loop-start-test.true (λ e. omega (arith, c.if-table-byte-gt0.true)))
+    sym (loop.invariant.1 ∙ start_letter c.args.table.now c.args.text.now loop.start c.loop-start-test.true (λ e. omega (arith, c.if-table-byte-gt0.true)))
 
 add_start : tie.Need-overflow_add-start invariant-loop decreases-loop
 add_start c = search rules
@@ -40,11 +40,11 @@ loop-less c = search rules
 
 loop-again : tie.Need-loop-start-preserved invariant-loop decreases-loop
 loop-again c = let loop = c.loop-start in
-    (omega arith, loop.invariant.1 ∙ start_separator c.args.table.now c.args.text.now loop.c c.loop-start-test.true (omega (arith, c.if-table-byte-gt0.false)))
+    (omega arith, loop.invariant.1 ∙ start_separator c.args.table.now c.args.text.now loop.start c.loop-start-test.true (omega (arith, c.if-table-byte-gt0.false)))
 
 returns-2 : tie.Need-returns invariant-loop decreases-loop
 returns-2 c = let loop = c.loop-start in
-    sym (loop.invariant.1 ∙ start_end c.args.table.now c.args.text.now loop.c c.loop-start-test.false)
+    sym (loop.invariant.1 ∙ start_end c.args.table.now c.args.text.now loop.start c.loop-start-test.false)
 
 pub word_start_spec : {M : Type 1} → statement M
 word_start_spec =

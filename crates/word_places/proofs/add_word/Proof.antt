@@ -8,51 +8,51 @@ use Rattle.base.proofs.Tests.{cond_below, cond_not_below}
 use Rattle.word_places.proofs.add_word.Statement.{statement}
 use Rattle.word_places.proofs.add_word.Tie as tie
 
-sub-result : tie.Need-overflow-sub-result
+sub-result : tie.Need-overflow_sub-result
 sub-result c = search rules
 
-returns : tie.Need-returns
-returns c = let f = c.before.args.found in
-    (sym (cond_below (f - 1) c.before.args.place 0 f c.if1.true), sym (cond_below _ _ 0 f c.if1.true), sym (cond_below _ _ 0 f c.if1.true))
+returns : tie.Need-returns-then-found-gt0
+returns c = let f = c.args.found in
+    (sym (cond_below (f - 1) c.args.place 0 f c.if-found-gt0.true), sym (cond_below _ _ 0 f c.if-found-gt0.true), sym (cond_below _ _ 0 f c.if-found-gt0.true))
 
-mul-links : tie.Need-overflow-mul-links
+mul-links : tie.Need-offset_bounds-heads-bucket
 mul-links c = search rules
 
-slice-read-links : tie.Need-slice-read-links
+slice-read-links : tie.Need-bounds-heads-bucket
 slice-read-links c = search rules
 
-mul-links-2 : tie.Need-overflow-mul-links-2
+mul-links-2 : tie.Need-offset_bounds-links-place
 mul-links-2 c = search rules
 
-slice-write-links : tie.Need-slice-write-links
+slice-write-links : tie.Need-bounds-links-place
 slice-write-links c = search rules
 
-add-heads : tie.Need-overflow-add-heads
+add-heads : tie.Need-overflow_add-heads
 add-heads c = search rules
 
-cast-heads : tie.Need-overflow-cast-heads
+cast-heads : tie.Need-overflow_cast-heads
 cast-heads c = search rules
 
-mul-heads : tie.Need-overflow-mul-heads
+mul-heads : tie.Need-offset_bounds-heads-bucket-2
 mul-heads c = search rules
 
-slice-write-heads : tie.Need-slice-write-heads
+slice-write-heads : tie.Need-bounds-heads-bucket-2
 slice-write-heads c = search rules
 
-same_length : tie.Need-same-length
+same_length : tie.Need-shape_of-heads
 same_length c = search rules
 
-same-length-2 : tie.Need-same-length-2
+same-length-2 : tie.Need-shape_of-links
 same-length-2 c = search rules
 
-returns-2 : tie.Need-returns-2
-returns-2 c = let a = c.before.before.args in
-    let l = c.before.if1.false in
+returns-2 : tie.Need-returns
+returns-2 c = let a = c.args in
+    let l = c.if-found-gt0.false in
     let one : a.place + 1 ≡ suc a.place = add-one a.place in
     (sym (cond_not_below (a.found - 1) a.place 0 a.found l), ap (set a.heads.now a.bucket) one ∙ sym (cond_not_below _ _ 0 a.found l), sym (cond_not_below _ _ 0 a.found l))
 
-pub add-word-spec : {M : Type 1} → statement M
-add-word-spec =
+pub add_word_spec : {M : Type 1} → statement M
+add_word_spec =
     tie.close
     (tie.spec
     sub-result

@@ -5,32 +5,32 @@ use Rattle.words.proofs.Parts.{from_inside, from_byte}
 use Rattle.words.proofs.byte_at.Statement.{statement}
 use Rattle.words.proofs.byte_at.Tie as tie
 
-mul-start : tie.Need-overflow-mul-start
+mul-start : tie.Need-offset_bounds-starts-node
 mul-start c = search rules
 
-shared-slice-read-start : tie.Need-shared-slice-read-start
+shared-slice-read-start : tie.Need-bounds-starts-node
 shared-slice-read-start c = search rules
 
-cast-start : tie.Need-overflow-cast-start
-cast-start c = omega (arith, c.shared-slice-known.given c.before.args.node)
+cast-start : tie.Need-overflow_cast-start
+cast-start c = omega (arith, c.shared_slice_known-1.given c.args.node)
 
-add-result : tie.Need-overflow-add-result
+add-result : tie.Need-overflow_add-result
 add-result c =
-    let a = c.before.before.args in
-    omega (arith, from_inside a.bytes.now a.starts.now a.node a.at.0 c.before.before.requires.1)
+    let a = c.args in
+    omega (arith, from_inside a.bytes.now a.starts.now a.node a.at.0 c.requires.1)
 
-shared-slice-read-result : tie.Need-shared-slice-read-result
+shared-slice-read-result : tie.Need-bounds-bytes-start
 shared-slice-read-result c =
-    let a = c.before.before.before.args in
-    from_inside a.bytes.now a.starts.now a.node a.at.0 c.before.before.before.requires.1
+    let a = c.args in
+    from_inside a.bytes.now a.starts.now a.node a.at.0 c.requires.1
 
 returns : tie.Need-returns
 returns c =
-    let a = c.before.before.before.args in
-    from_byte a.bytes.now a.starts.now a.node a.at.0 c.before.before.before.requires.1
+    let a = c.args in
+    from_byte a.bytes.now a.starts.now a.node a.at.0 c.requires.1
 
-pub byte-at-spec : {M : Type 1} → statement M
-byte-at-spec =
+pub byte_at_spec : {M : Type 1} → statement M
+byte_at_spec =
     tie.close
     (tie.spec
     mul-start

@@ -10,46 +10,41 @@ use Rattle.words.proofs.count_below.Statement.{statement}
 use Rattle.words.proofs.count_below.Tie as tie
 
 -- the node of the rank is there
-here : (c : tie.After-node-of) → c.node_of.result < length c.before.before.before.before.before.before.args.lengths.now
+here : (c : tie.After-node_of-node) → c.node_of-node.result < length c.args.lengths.now
 here c =
-    let start = c.before.before.before.before.before.before in
-    rw c.node_of.ensures (end_there start.requires.0.checked start.args.rank start.requires.1)
+    rw c.node_of-node.ensures (end_there c.requires.0.checked c.args.rank c.requires.1)
 
-node-of-requires : tie.Need-node-of-requires
+node-of-requires : tie.Need-node_of-node-requires
 node-of-requires c κs = search rules
 
-closing-byte-requires : tie.Need-closing-byte-requires
+closing-byte-requires : tie.Need-closing_byte-byte-requires
 closing-byte-requires c κs = search rules
 
-position-in-requires : tie.Need-position-in-requires
+position-in-requires : tie.Need-position_in-at-requires
 position-in-requires c κs =
-    let start = c.before.before.before.before.before.before.before in
-    (start.requires.0, here c.before, omega (arith, start.requires.2))
+    (c.requires.0, here (c.before), omega (arith, c.requires.2))
 
-count-in-node-requires : tie.Need-count-in-node-requires
+count-in-node-requires : tie.Need-count_in_node-count-requires
 count-in-node-requires c κs =
-    let start = c.before.before.before.before.before.before.before.before in
-    let k = c.before.before.node_of.result in (
-      node_counted start.requires.0 k (here c.before.before),
-      rw (node_from_lem start.requires.0 k (here c.before.before), c.position_in.ensures) (position_most start.requires.0.checked k start.args.place.0),
+    let k = c.node_of-node.result in (
+      node_counted c.requires.0 k (here (c.before.before)),
+      rw (node_from_lem c.requires.0 k (here (c.before.before)), c.position_in-at.ensures) (position_most c.requires.0.checked k c.args.place.0),
     )
 
 returns : tie.Need-returns
 returns c =
-    let start = c.before.before.before.before.before.before.before.before.before in
-    let n = c.before.before.before in
-    let k = n.node_of.result in (
+    let k = c.node_of-node.result in (
       record {
-        inside = rw (← n.node_of.ensures, node_from_lem start.requires.0 k (here n), c.before.position_in.ensures) (position_most start.requires.0.checked k start.args.place.0);
-        counted = rw (← n.node_of.ensures, ← c.before.before.closing-byte.ensures) (sym c.count-in-node.ensures);
+        inside = rw (← c.node_of-node.ensures, node_from_lem c.requires.0 k (here (c.before.before.before)), c.position_in-at.ensures) (position_most c.requires.0.checked k c.args.place.0);
+        counted = rw (← c.node_of-node.ensures, ← c.closing_byte-byte.ensures) (sym c.count_in_node-count.ensures);
       },
-      c.count-in-node.ensures
-          ∙ rw (node_from_lem start.requires.0 k (here n), c.before.position_in.ensures, c.before.before.closing-byte.ensures, n.node_of.ensures)
-          (sym (often_below start.requires.0.checked start.args.rank start.requires.1 start.args.place.0)),
+      c.count_in_node-count.ensures
+          ∙ rw (node_from_lem c.requires.0 k (here (c.before.before.before)), c.position_in-at.ensures, c.closing_byte-byte.ensures, c.node_of-node.ensures)
+          (sym (often_below c.requires.0.checked c.args.rank c.requires.1 c.args.place.0)),
     )
 
-pub count-below-spec : {M : Type 1} → statement M
-count-below-spec =
+pub count_below_spec : {M : Type 1} → statement M
+count_below_spec =
     tie.close
     (tie.spec
     node-of-requires

@@ -4,19 +4,23 @@ use borrow.Author.Rules.{rules}
 use Rattle.words.proofs.count_in_node.Statement.{statement}
 use Rattle.words.proofs.count_in_node.Tie as tie
 
-step-in-requires : tie.Need-step-in-requires
+step-in-requires : tie.Need-step_in-step-requires
 step-in-requires c κs = search rules
 
-count-in-step-requires : tie.Need-count-in-step-requires
+count-in-step-requires : tie.Need-count_in_step-requires
 count-in-step-requires c κs =
-    let start = c.before.before.before.before.before in
-    let e = c.step_in.ensures in
-    (rw e.node_is start.requires.0, record { node_is = refl; byte_is = refl; skipped_is = rw (e.node_is, e.byte_is) e.skipped_is }, rw e.node_is start.requires.1)
+    let e = c.step_in-step.ensures in
+    (rw e.node_is c.requires.0, record { node_is = refl; byte_is = refl; skipped_is = rw (e.node_is, e.byte_is) e.skipped_is }, rw e.node_is c.requires.1)
 
 returns : tie.Need-returns
 returns c =
-    let e = c.before.step_in.ensures in
-    rw (e.node_is, e.byte_is) at c.count-in-step.ensures
+    let e = c.step_in-step.ensures in
+    rw (e.node_is, e.byte_is) at c.count_in_step.ensures
 
-pub count-in-node-spec : {M : Type 1} → statement M
-count-in-node-spec = tie.close (tie.spec step-in-requires count-in-step-requires returns)
+pub count_in_node_spec : {M : Type 1} → statement M
+count_in_node_spec =
+    tie.close
+    (tie.spec
+    step-in-requires
+    count-in-step-requires
+    returns)

@@ -5,24 +5,29 @@ use Rattle.words.proofs.Positions.{end_there}
 use Rattle.words.proofs.frequency.Statement.{statement}
 use Rattle.words.proofs.frequency.Tie as tie
 
-node-of-requires : tie.Need-node-of-requires
+node-of-requires : tie.Need-node_of-node-requires
 node-of-requires c κs = search rules
 
-closing-byte-requires : tie.Need-closing-byte-requires
+closing-byte-requires : tie.Need-closing_byte-byte-requires
 closing-byte-requires c κs = search rules
 
-step-in-requires : tie.Need-step-in-requires
+step-in-requires : tie.Need-step_in-first-requires
 step-in-requires c κs =
-    let start = c.before.before.before.before.before.before.before in
-    rw c.before.node_of.ensures (node_counted start.requires.0 _ (end_there start.requires.0.checked start.args.rank start.requires.1))
+    rw c.node_of-node.ensures (node_counted c.requires.0 _ (end_there c.requires.0.checked c.args.rank c.requires.1))
 
-frequency-by-requires : tie.Need-frequency-by-requires
+frequency-by-requires : tie.Need-frequency_by-requires
 frequency-by-requires c κs =
-    let start = c.before.before.before.before.before.before.before.before in
-    (start.requires.0, start.requires.1, rw (c.before.before.node_of.ensures, c.before.closing-byte.ensures) at c.step_in.ensures)
+    (c.requires.0, c.requires.1, rw (c.node_of-node.ensures, c.closing_byte-byte.ensures) at c.step_in-first.ensures)
 
 returns : tie.Need-returns
 returns c = search rules
 
-pub frequency-spec : {M : Type 1} → statement M
-frequency-spec = tie.close (tie.spec node-of-requires closing-byte-requires step-in-requires frequency-by-requires returns)
+pub frequency_spec : {M : Type 1} → statement M
+frequency_spec =
+    tie.close
+    (tie.spec
+    node-of-requires
+    closing-byte-requires
+    step-in-requires
+    frequency-by-requires
+    returns)

@@ -16,37 +16,42 @@ use Rattle.words.proofs.frequency_by.Tie as tie
 here : (c : tie.Start) → c.args.first.node < length c.args.lengths.now
 here c = rw c.requires.2.node_is (end_there c.requires.0.checked c.args.rank c.requires.1)
 
-mul-size : tie.Need-overflow-mul-size
-mul-size c = omega (arith, here c.before.before.before.before.before, checked_most c.before.before.before.before.before.requires.0.checked)
+mul-size : tie.Need-offset_bounds-lengths-node
+mul-size c = omega (arith, here (c.before.before.before.before.before), checked_most c.requires.0.checked)
 
-shared-slice-read-size : tie.Need-shared-slice-read-size
-shared-slice-read-size c = here c.before.before.before.before.before.before
+shared-slice-read-size : tie.Need-bounds-lengths-node
+shared-slice-read-size c = here (c.before.before.before.before.before.before)
 
-cast-size : tie.Need-overflow-cast-size
-cast-size c = omega (arith, c.shared-slice-known6.given c.before.before.before.before.before.before.args.first.node)
+cast-size : tie.Need-overflow_cast-size
+cast-size c = omega (arith, c.shared_slice_known-6-1.given c.args.first.node)
 
-count-in-step-requires : tie.Need-count-in-step-requires
+count-in-step-requires : tie.Need-count_in_step-requires
 count-in-step-requires c κs =
-    let start = c.before.before.before.before.before.before in
-    let first = start.requires.2 in
-    let k = start.args.first.node in (
-      node_counted start.requires.0 k (here start),
+    let first = c.requires.2 in
+    let k = c.args.first.node in (
+      node_counted c.requires.0 k (here (c.before.before.before.before.before.before)),
       record { node_is = refl; byte_is = refl; skipped_is = rw (first.node_is, first.byte_is) first.skipped_is },
-      rw (node_from_lem start.requires.0 k (here start)) (omega (arith, node_size start.requires.0.checked k)),
+      rw (node_from_lem c.requires.0 k (here (c.before.before.before.before.before.before))) (omega (arith, node_size c.requires.0.checked k)),
     )
 
 returns : tie.Need-returns
 returns c =
-    let start = c.before.before.before.before.before.before.before in
-    let first = start.requires.2 in
-    let k = start.args.first.node in
-    let b = start.args.first.byte in
-    let a = arrays start.args.lengths.now start.args.bytes.now start.args.superblocks.now start.args.blocks.now in
-    c.count-in-step.ensures
-    ∙ ap (λ (x : List ℕ). count_of b (take (get_or start.args.lengths.now k 0) x)) (node_from_lem start.requires.0 k (here start))
-    ∙ ap (count_of b) (take_all (get_or start.args.lengths.now k 0) (node_in a k) (omega (arith, node_size start.requires.0.checked k)))
+    let first = c.requires.2 in
+    let k = c.args.first.node in
+    let b = c.args.first.byte in
+    let a = arrays c.args.lengths.now c.args.bytes.now c.args.superblocks.now c.args.blocks.now in
+    c.count_in_step.ensures
+    ∙ ap (λ (x : List ℕ). count_of b (take (get_or c.args.lengths.now k 0) x)) (node_from_lem c.requires.0 k (here (c.before.before.before.before.before.before.before)))
+    ∙ ap (count_of b) (take_all (get_or c.args.lengths.now k 0) (node_in a k) (omega (arith, node_size c.requires.0.checked k)))
     ∙ ap₂ (λ (b k : ℕ). count_of b (node_in a k)) first.byte_is first.node_is
-    ∙ sym (often start.requires.0.checked start.args.rank start.requires.1)
+    ∙ sym (often c.requires.0.checked c.args.rank c.requires.1)
 
-pub frequency-by-spec : {M : Type 1} → statement M
-frequency-by-spec = tie.close (tie.spec mul-size shared-slice-read-size cast-size count-in-step-requires returns)
+pub frequency_by_spec : {M : Type 1} → statement M
+frequency_by_spec =
+    tie.close
+    (tie.spec
+    mul-size
+    shared-slice-read-size
+    cast-size
+    count-in-step-requires
+    returns)

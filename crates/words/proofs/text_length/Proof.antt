@@ -7,14 +7,19 @@ use Rattle.words.proofs.Positions.{text_size_lem}
 use Rattle.words.proofs.text_length.Statement.{statement}
 use Rattle.words.proofs.text_length.Tie as tie
 
-shared-slice-read-result : tie.Need-shared-slice-read-result
+shared-slice-read-result : tie.Need-bounds-lengths-0
 shared-slice-read-result c = search rules
 
-cast-result : tie.Need-overflow-cast-result
-cast-result c = omega (arith, c.shared-slice-known.given 0)
+cast-result : tie.Need-overflow_cast-result
+cast-result c = omega (arith, c.shared_slice_known-1.given 0)
 
 returns : tie.Need-returns
 returns c = (refl, λ s shape ys us ks checked. sym (text_size_lem checked ∙ node_size checked 0))
 
-pub text-length-spec : {M : Type 1} → statement M
-text-length-spec = tie.close (tie.spec shared-slice-read-result cast-result returns)
+pub text_length_spec : {M : Type 1} → statement M
+text_length_spec =
+    tie.close
+    (tie.spec
+    shared-slice-read-result
+    cast-result
+    returns)
