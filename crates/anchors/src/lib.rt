@@ -39,10 +39,8 @@ fn rarest(
     starts: &[u32],
     words: &[u32],
 ) -> usize
-    ghost a: { Arrays }
-    requires blocks_value { arrays lengths.now bytes.now superblocks.now blocks.now ≡ a }
-    requires searchable { Searchable s shape a starts.now words.now }
-    ensures { Rarest (text_in s a) words.now result }
+    requires { let a : Arrays = arrays lengths.now bytes.now superblocks.now blocks.now in Searchable s shape a starts.now words.now }
+    ensures { let a : Arrays = arrays lengths.now bytes.now superblocks.now blocks.now in Rarest (text_in s a) words.now result }
 {
     let mut rare: usize = 0;
     let first = words[0] as usize;
@@ -72,9 +70,7 @@ pub fn anchor_of(
     words: &[u32],
     sought: Sought,
 ) -> usize
-    ghost a: { Arrays }
-    requires blocks_value { arrays lengths.now bytes.now superblocks.now blocks.now ≡ a }
-    requires searchable { Searchable s shape a starts.now words.now }
+    requires { let a : Arrays = arrays lengths.now bytes.now superblocks.now blocks.now in Searchable s shape a starts.now words.now }
     ensures { AnchorOf words.now sought result }
 {
     match sought {
@@ -95,9 +91,7 @@ pub fn in_root(
     starts: &[u32],
     rank: usize,
 ) -> usize
-    ghost a: { Arrays }
-    requires blocks_value { arrays lengths.now bytes.now superblocks.now blocks.now ≡ a }
-    requires ready { Ready s shape a starts.now × (rank < shape.vocabulary) }
+    requires { let a : Arrays = arrays lengths.now bytes.now superblocks.now blocks.now in Ready s shape a starts.now × (rank < shape.vocabulary) }
 {
     let codeword = dense::encode(s, rank);
     if codeword.length == 1 {
@@ -123,9 +117,7 @@ fn rarest_beside(
     words: &[u32],
     anchor: usize,
 ) -> usize
-    ghost a: { Arrays }
-    requires blocks_value { arrays lengths.now bytes.now superblocks.now blocks.now ≡ a }
-    requires searchable { Searchable s shape a starts.now words.now × (anchor < length words.now) }
+    requires { let a : Arrays = arrays lengths.now bytes.now superblocks.now blocks.now in Searchable s shape a starts.now words.now × (anchor < length words.now) }
     ensures { result < length words.now }
 {
     let mut second = anchor;
@@ -189,10 +181,8 @@ pub fn second_of(
     sought: Sought,
     anchor: usize,
 ) -> Second
-    ghost a: { Arrays }
-    requires blocks_value { arrays lengths.now bytes.now superblocks.now blocks.now ≡ a }
-    requires searchable { Searchable s shape a starts.now words.now × Paired words.now sought × AnchorOf words.now sought anchor × (anchor < length words.now) }
-    ensures { SecondOf (text_in s a) words.now sought anchor result }
+    requires { let a : Arrays = arrays lengths.now bytes.now superblocks.now blocks.now in Searchable s shape a starts.now words.now × Paired words.now sought × AnchorOf words.now sought anchor × (anchor < length words.now) }
+    ensures { let a : Arrays = arrays lengths.now bytes.now superblocks.now blocks.now in SecondOf (text_in s a) words.now sought anchor result }
 {
     match sought {
         Sought::Phrase => {

@@ -26,10 +26,8 @@ fn answer_word_at(
     starts: &[u32],
     place: usize,
 ) -> Answer
-    ghost a: { Arrays }
-    requires blocks_value { arrays lengths.now bytes.now superblocks.now blocks.now ≡ a }
-    requires ready { Ready s shape a starts.now }
-    ensures { result ≡ word_at_answer (text_in s a) place }
+    requires { let a : Arrays = arrays lengths.now bytes.now superblocks.now blocks.now in Ready s shape a starts.now }
+    ensures { let a : Arrays = arrays lengths.now bytes.now superblocks.now blocks.now in result ≡ word_at_answer (text_in s a) place }
 {
     if words::text_length(lengths) <= place {
         return Answer::refused(refusal::PLACE);
@@ -59,10 +57,8 @@ fn answer_occurrences(
     rank: usize,
     place: usize,
 ) -> Answer
-    ghost a: { Arrays }
-    requires blocks_value { arrays lengths.now bytes.now superblocks.now blocks.now ≡ a }
-    requires ready { Ready s shape a starts.now }
-    ensures { result ≡ occurrences_answer shape.vocabulary (text_in s a) rank place }
+    requires { let a : Arrays = arrays lengths.now bytes.now superblocks.now blocks.now in Ready s shape a starts.now }
+    ensures { let a : Arrays = arrays lengths.now bytes.now superblocks.now blocks.now in result ≡ occurrences_answer shape.vocabulary (text_in s a) rank place }
 {
     if shape.vocabulary < rank {
         return Answer::refused(refusal::ASKED_RANK);
@@ -98,10 +94,8 @@ fn answer_place(
     rank: usize,
     p: usize,
 ) -> Answer
-    ghost a: { Arrays }
-    requires blocks_value { arrays lengths.now bytes.now superblocks.now blocks.now ≡ a }
-    requires ready { Ready s shape a starts.now }
-    ensures { result ≡ place_answer shape.vocabulary (text_in s a) rank p }
+    requires { let a : Arrays = arrays lengths.now bytes.now superblocks.now blocks.now in Ready s shape a starts.now }
+    ensures { let a : Arrays = arrays lengths.now bytes.now superblocks.now blocks.now in result ≡ place_answer shape.vocabulary (text_in s a) rank p }
 {
     if shape.vocabulary < rank {
         return Answer::refused(refusal::ASKED_RANK);
@@ -159,10 +153,8 @@ fn answer_neighbours(
     v: u32,
     offset: i32,
 ) -> Answer
-    ghost a: { Arrays }
-    requires blocks_value { arrays lengths.now bytes.now superblocks.now blocks.now ≡ a }
-    requires ready { Ready s shape a starts.now × (is_ascending documents.now ≡ true) }
-    ensures { result ≡ neighbours_answer shape.vocabulary (text_in s a) documents.now w v offset }
+    requires { let a : Arrays = arrays lengths.now bytes.now superblocks.now blocks.now in Ready s shape a starts.now × (is_ascending documents.now ≡ true) }
+    ensures { let a : Arrays = arrays lengths.now bytes.now superblocks.now blocks.now in result ≡ neighbours_answer shape.vocabulary (text_in s a) documents.now w v offset }
 {
     if shape.vocabulary < w as usize {
         return Answer::refused(refusal::ASKED_RANK);
@@ -211,10 +203,8 @@ fn answer_phrase(
     start: usize,
     count: usize,
 ) -> Answer
-    ghost a: { Arrays }
-    requires blocks_value { arrays lengths.now bytes.now superblocks.now blocks.now ≡ a }
-    requires ready { Ready s shape a starts.now × (is_ascending documents.now ≡ true) }
-    ensures { result ≡ phrase_answer shape.vocabulary (text_in s a) documents.now words.now start count }
+    requires { let a : Arrays = arrays lengths.now bytes.now superblocks.now blocks.now in Ready s shape a starts.now × (is_ascending documents.now ≡ true) }
+    ensures { let a : Arrays = arrays lengths.now bytes.now superblocks.now blocks.now in result ≡ phrase_answer shape.vocabulary (text_in s a) documents.now words.now start count }
 {
     if count == 0 {
         return phrase_checks::answer_no_words(words, start, words::text_length(lengths));
@@ -253,10 +243,8 @@ pub fn answer(
     words: &[u32],
     question: Question,
 ) -> Answer
-    ghost a: { Arrays }
-    requires blocks_value { arrays lengths.now bytes.now superblocks.now blocks.now ≡ a }
-    requires ready { Ready s shape a starts.now × (is_ascending documents.now ≡ true) }
-    ensures { result ≡ question_answer shape.vocabulary (text_in s a) documents.now words.now question }
+    requires { let a : Arrays = arrays lengths.now bytes.now superblocks.now blocks.now in Ready s shape a starts.now × (is_ascending documents.now ≡ true) }
+    ensures { let a : Arrays = arrays lengths.now bytes.now superblocks.now blocks.now in result ≡ question_answer shape.vocabulary (text_in s a) documents.now words.now question }
 {
     let kind = question.kind;
     let w = question.w as usize;

@@ -33,10 +33,8 @@ fn count_hits(
     words: &[u32],
     sought: Sought,
 ) -> usize
-    ghost a: { Arrays }
-    requires blocks_value { arrays lengths.now bytes.now superblocks.now blocks.now ≡ a }
-    requires searching { Searching s shape a starts.now firsts.now words.now × Paired words.now sought × (is_ascending documents.now ≡ true) }
-    ensures { result ≡ length (hits_between (hit_in documents.now (text_in s a) words.now sought) 0 (suc (length (text_in s a)))) }
+    requires { let a : Arrays = arrays lengths.now bytes.now superblocks.now blocks.now in Searching s shape a starts.now firsts.now words.now × Paired words.now sought × (is_ascending documents.now ≡ true) }
+    ensures { let a : Arrays = arrays lengths.now bytes.now superblocks.now blocks.now in result ≡ length (hits_between (hit_in documents.now (text_in s a) words.now sought) 0 (suc (length (text_in s a)))) }
 {
     let end = Place(words::text_length(lengths) + 1);
     let mut count: usize = 0;
@@ -90,10 +88,8 @@ pub fn count_phrase(
     documents: &[u32],
     words: &[u32],
 ) -> usize
-    ghost a: { Arrays }
-    requires blocks_value { arrays lengths.now bytes.now superblocks.now blocks.now ≡ a }
-    requires searchable { Searchable s shape a starts.now words.now × (is_ascending documents.now ≡ true) }
-    ensures { result ≡ length (places_in documents.now (text_in s a) words.now) }
+    requires { let a : Arrays = arrays lengths.now bytes.now superblocks.now blocks.now in Searchable s shape a starts.now words.now × (is_ascending documents.now ≡ true) }
+    ensures { let a : Arrays = arrays lengths.now bytes.now superblocks.now blocks.now in result ≡ length (places_in documents.now (text_in s a) words.now) }
 {
     let m = words.len();
     if m == 1 {
@@ -131,10 +127,8 @@ fn count_pair(
     v: u32,
     offset: i32,
 ) -> usize
-    ghost a: { Arrays }
-    requires blocks_value { arrays lengths.now bytes.now superblocks.now blocks.now ≡ a }
-    requires ready { Ready s shape a starts.now × (w < shape.vocabulary) × (v < shape.vocabulary) × (is_ascending documents.now ≡ true) }
-    ensures { result ≡ neighbours_in documents.now (text_in s a) w v offset }
+    requires { let a : Arrays = arrays lengths.now bytes.now superblocks.now blocks.now in Ready s shape a starts.now × (w < shape.vocabulary) × (v < shape.vocabulary) × (is_ascending documents.now ≡ true) }
+    ensures { let a : Arrays = arrays lengths.now bytes.now superblocks.now blocks.now in result ≡ neighbours_in documents.now (text_in s a) w v offset }
 {
     let pair = [w, v];
     let mut table = [0u8; 2];
@@ -169,10 +163,8 @@ pub fn neighbours(
     v: u32,
     offset: i32,
 ) -> usize
-    ghost a: { Arrays }
-    requires blocks_value { arrays lengths.now bytes.now superblocks.now blocks.now ≡ a }
-    requires ready { Ready s shape a starts.now × (w < shape.vocabulary) × (v < shape.vocabulary) × (nat_abs offset ≤ max_offset) × (is_ascending documents.now ≡ true) }
-    ensures { result ≡ neighbours_in documents.now (text_in s a) w v offset }
+    requires { let a : Arrays = arrays lengths.now bytes.now superblocks.now blocks.now in Ready s shape a starts.now × (w < shape.vocabulary) × (v < shape.vocabulary) × (nat_abs offset ≤ max_offset) × (is_ascending documents.now ≡ true) }
+    ensures { let a : Arrays = arrays lengths.now bytes.now superblocks.now blocks.now in result ≡ neighbours_in documents.now (text_in s a) w v offset }
 {
     let one = w as usize;
     let other = v as usize;

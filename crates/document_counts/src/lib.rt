@@ -53,10 +53,8 @@ pub fn count_by_document(
     words: &[u32],
     counts: &mut [u32],
 )
-    ghost a: { Arrays }
-    requires blocks_value { arrays lengths.now bytes.now superblocks.now blocks.now ≡ a }
-    requires searching { Searching s shape a starts.now firsts.now words.now × (are_starts (length (text_in s a)) documents.now ≡ true) × (length documents.now ≤ length counts.old) }
-    ensures { counts.new ≡ front (counts_by_document documents.now (text_in s a) words.now) counts.old }
+    requires { let a : Arrays = arrays lengths.now bytes.now superblocks.now blocks.now in Searching s shape a starts.now firsts.now words.now × (are_starts (length (text_in s a)) documents.now ≡ true) × (length documents.now ≤ length counts.old) }
+    ensures { let a : Arrays = arrays lengths.now bytes.now superblocks.now blocks.now in counts.new ≡ front (counts_by_document documents.now (text_in s a) words.now) counts.old }
 {
     let end = Place(words::text_length(lengths) + 1);
     clear_counts(counts, documents.len());

@@ -43,10 +43,8 @@ fn agrees_at(
     place: Place,
     rank: usize,
 ) -> bool
-    ghost a: { Arrays }
-    requires blocks_value { arrays lengths.now bytes.now superblocks.now blocks.now ≡ a }
-    requires ready { Ready s shape a starts.now × (place.0 < length (text_in s a)) }
-    ensures { result ≡ eqb (rank_at (text_in s a) place.0) rank }
+    requires { let a : Arrays = arrays lengths.now bytes.now superblocks.now blocks.now in Ready s shape a starts.now × (place.0 < length (text_in s a)) }
+    ensures { let a : Arrays = arrays lengths.now bytes.now superblocks.now blocks.now in result ≡ eqb (rank_at (text_in s a) place.0) rank }
 {
     let found = words::word_at(s, shape, lengths, bytes, superblocks, blocks, starts, place);
     found as usize == rank
@@ -64,10 +62,8 @@ fn words_stand(
     words: &[u32],
     place: Place,
 ) -> bool
-    ghost a: { Arrays }
-    requires blocks_value { arrays lengths.now bytes.now superblocks.now blocks.now ≡ a }
-    requires ready { Ready s shape a starts.now × (place.0 + length words.now ≤ length (text_in s a)) }
-    ensures { result ≡ stands (text_in s a) words.now place.0 }
+    requires { let a : Arrays = arrays lengths.now bytes.now superblocks.now blocks.now in Ready s shape a starts.now × (place.0 + length words.now ≤ length (text_in s a)) }
+    ensures { let a : Arrays = arrays lengths.now bytes.now superblocks.now blocks.now in result ≡ stands (text_in s a) words.now place.0 }
 {
     let mut i: usize = 0;
     while i < words.len() {
@@ -125,10 +121,8 @@ fn stands_at(
     words: &[u32],
     place: Place,
 ) -> bool
-    ghost a: { Arrays }
-    requires blocks_value { arrays lengths.now bytes.now superblocks.now blocks.now ≡ a }
-    requires searching { Searching s shape a starts.now firsts.now words.now × (place.0 ≤ length (text_in s a)) × (is_ascending documents.now ≡ true) }
-    ensures { result ≡ stands_in documents.now (text_in s a) words.now place.0 }
+    requires { let a : Arrays = arrays lengths.now bytes.now superblocks.now blocks.now in Searching s shape a starts.now firsts.now words.now × (place.0 ≤ length (text_in s a)) × (is_ascending documents.now ≡ true) }
+    ensures { let a : Arrays = arrays lengths.now bytes.now superblocks.now blocks.now in result ≡ stands_in documents.now (text_in s a) words.now place.0 }
 {
     let n = words::text_length(lengths);
     if n < place.0 + words.len() {
@@ -173,10 +167,8 @@ fn word_stands(
     from: Place,
     place: Place,
 ) -> bool
-    ghost a: { Arrays }
-    requires blocks_value { arrays lengths.now bytes.now superblocks.now blocks.now ≡ a }
-    requires ready { Ready s shape a starts.now × (first ≡ first_byte (code s rank)) × (place.0 < length (text_in s a)) × (is_ascending documents.now ≡ true) }
-    ensures { result ≡ same_document documents.now from.0 place.0 && eqb (rank_at (text_in s a) place.0) rank }
+    requires { let a : Arrays = arrays lengths.now bytes.now superblocks.now blocks.now in Ready s shape a starts.now × (first ≡ first_byte (code s rank)) × (place.0 < length (text_in s a)) × (is_ascending documents.now ≡ true) }
+    ensures { let a : Arrays = arrays lengths.now bytes.now superblocks.now blocks.now in result ≡ same_document documents.now from.0 place.0 && eqb (rank_at (text_in s a) place.0) rank }
 {
     let at = tree::root_position(place).0;
     if bytes[at] != first {
@@ -214,10 +206,8 @@ fn neighbour_at(
     place: Place,
     offset: i32,
 ) -> bool
-    ghost a: { Arrays }
-    requires blocks_value { arrays lengths.now bytes.now superblocks.now blocks.now ≡ a }
-    requires ready { Ready s shape a starts.now × (place.0 < length (text_in s a)) × (first ≡ first_byte (code s rank)) × (is_ascending documents.now ≡ true) }
-    ensures { result ≡ same_document documents.now place.0 (nat_abs (pos place.0 +ℤ offset)) && stands_at (text_in s a) rank (pos place.0 +ℤ offset) }
+    requires { let a : Arrays = arrays lengths.now bytes.now superblocks.now blocks.now in Ready s shape a starts.now × (place.0 < length (text_in s a)) × (first ≡ first_byte (code s rank)) × (is_ascending documents.now ≡ true) }
+    ensures { let a : Arrays = arrays lengths.now bytes.now superblocks.now blocks.now in result ≡ same_document documents.now place.0 (nat_abs (pos place.0 +ℤ offset)) && stands_at (text_in s a) rank (pos place.0 +ℤ offset) }
 {
     let n = words::text_length(lengths);
     let found = phrases::shifted(place, offset, n);
@@ -256,10 +246,8 @@ fn pair_at(
     place: Place,
     offset: i32,
 ) -> bool
-    ghost a: { Arrays }
-    requires blocks_value { arrays lengths.now bytes.now superblocks.now blocks.now ≡ a }
-    requires searching { Searching s shape a starts.now firsts.now words.now × (length words.now ≡ 2) × (place.0 < length (text_in s a)) × (is_ascending documents.now ≡ true) }
-    ensures { result ≡ neighbour_in documents.now (text_in s a) (get_or words.now 0 0) (get_or words.now 1 0) offset place.0 }
+    requires { let a : Arrays = arrays lengths.now bytes.now superblocks.now blocks.now in Searching s shape a starts.now firsts.now words.now × (length words.now ≡ 2) × (place.0 < length (text_in s a)) × (is_ascending documents.now ≡ true) }
+    ensures { let a : Arrays = arrays lengths.now bytes.now superblocks.now blocks.now in result ≡ neighbour_in documents.now (text_in s a) (get_or words.now 0 0) (get_or words.now 1 0) offset place.0 }
 {
     let first = words[0] as usize;
     if !agrees_at(
@@ -306,10 +294,8 @@ pub fn hit_at(
     sought: Sought,
     place: Place,
 ) -> bool
-    ghost a: { Arrays }
-    requires blocks_value { arrays lengths.now bytes.now superblocks.now blocks.now ≡ a }
-    requires searching { Searching s shape a starts.now firsts.now words.now × Paired words.now sought × (place.0 < length (text_in s a)) × (is_ascending documents.now ≡ true) }
-    ensures { result ≡ hit_in documents.now (text_in s a) words.now sought place.0 }
+    requires { let a : Arrays = arrays lengths.now bytes.now superblocks.now blocks.now in Searching s shape a starts.now firsts.now words.now × Paired words.now sought × (place.0 < length (text_in s a)) × (is_ascending documents.now ≡ true) }
+    ensures { let a : Arrays = arrays lengths.now bytes.now superblocks.now blocks.now in result ≡ hit_in documents.now (text_in s a) words.now sought place.0 }
 {
     match sought {
         Sought::Phrase => stands_at(

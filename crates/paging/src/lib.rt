@@ -76,10 +76,8 @@ fn fill_page(
     next: Place,
     lines: &mut [u32],
 ) -> Written
-    ghost a: { Arrays }
-    requires blocks_value { arrays lengths.now bytes.now superblocks.now blocks.now ≡ a }
-    requires searching { Searching s shape a starts.now firsts.now words.now × (next.0 ≤ length (text_in s a)) × (is_ascending documents.now ≡ true) }
-    ensures { (result ≡ written_of (page_over (stands_in documents.now (text_in s a) words.now) (length (text_in s a)) (length lines.old) next.0 false))
+    requires { let a : Arrays = arrays lengths.now bytes.now superblocks.now blocks.now in Searching s shape a starts.now firsts.now words.now × (next.0 ≤ length (text_in s a)) × (is_ascending documents.now ≡ true) }
+    ensures { let a : Arrays = arrays lengths.now bytes.now superblocks.now blocks.now in (result ≡ written_of (page_over (stands_in documents.now (text_in s a) words.now) (length (text_in s a)) (length lines.old) next.0 false))
         × (lines.new ≡ front (page_over (stands_in documents.now (text_in s a) words.now) (length (text_in s a)) (length lines.old) next.0 false).found lines.old) }
 {
     let n = words::text_length(lengths);
@@ -166,10 +164,8 @@ pub fn write_page(
     next: Place,
     lines: &mut [u32],
 ) -> Written
-    ghost a: { Arrays }
-    requires blocks_value { arrays lengths.now bytes.now superblocks.now blocks.now ≡ a }
-    requires checked { Checked s shape a × (length words.now ≤ max_phrase) × Below shape.vocabulary words.now × (next.0 ≤ length (text_in s a)) × (is_ascending documents.now ≡ true) }
-    ensures { (result ≡ written_of (page_over (stands_in documents.now (text_in s a) words.now) (length (text_in s a)) (length lines.old) next.0 false))
+    requires { let a : Arrays = arrays lengths.now bytes.now superblocks.now blocks.now in Checked s shape a × (length words.now ≤ max_phrase) × Below shape.vocabulary words.now × (next.0 ≤ length (text_in s a)) × (is_ascending documents.now ≡ true) }
+    ensures { let a : Arrays = arrays lengths.now bytes.now superblocks.now blocks.now in (result ≡ written_of (page_over (stands_in documents.now (text_in s a) words.now) (length (text_in s a)) (length lines.old) next.0 false))
         × (lines.new ≡ front (page_over (stands_in documents.now (text_in s a) words.now) (length (text_in s a)) (length lines.old) next.0 false).found lines.old) }
 {
     let m = words.len();

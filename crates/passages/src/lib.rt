@@ -23,10 +23,8 @@ pub fn read_passage(
     place: Place,
     ranks: &mut [u32],
 )
-    ghost a: { Arrays }
-    requires blocks_value { arrays lengths.now bytes.now superblocks.now blocks.now ≡ a }
-    requires ready { Ready s shape a starts.now × (place.0 + length ranks.old ≤ length (text_in s a)) }
-    ensures { ranks.new ≡ take (length ranks.old) (drop place.0 (text_in s a)) }
+    requires { let a : Arrays = arrays lengths.now bytes.now superblocks.now blocks.now in Ready s shape a starts.now × (place.0 + length ranks.old ≤ length (text_in s a)) }
+    ensures { let a : Arrays = arrays lengths.now bytes.now superblocks.now blocks.now in ranks.new ≡ take (length ranks.old) (drop place.0 (text_in s a)) }
 {
     let mut i: usize = 0;
     while i < ranks.len() {

@@ -52,10 +52,8 @@ fn write_summary(
     words: &[u32],
     counts: &mut [u32],
 )
-    ghost a: { Arrays }
-    requires blocks_value { arrays lengths.now bytes.now superblocks.now blocks.now ≡ a }
-    requires checked { Checked s shape a × (1 ≤ length words.now) × (length words.now ≤ max_phrase) × Below shape.vocabulary words.now × (are_starts (length (text_in s a)) documents.now ≡ true) × (length documents.now ≤ length counts.old) }
-    ensures { counts.new ≡ front (counts_by_document documents.now (text_in s a) words.now) counts.old }
+    requires { let a : Arrays = arrays lengths.now bytes.now superblocks.now blocks.now in Checked s shape a × (1 ≤ length words.now) × (length words.now ≤ max_phrase) × Below shape.vocabulary words.now × (are_starts (length (text_in s a)) documents.now ≡ true) × (length documents.now ≤ length counts.old) }
+    ensures { let a : Arrays = arrays lengths.now bytes.now superblocks.now blocks.now in counts.new ≡ front (counts_by_document documents.now (text_in s a) words.now) counts.old }
 {
     let m = words.len();
     let mut starts = [0u32; starts::MAX_STARTS];

@@ -42,10 +42,8 @@ pub fn way_of(
     starts: &[u32],
     rank: usize,
 ) -> Way
-    ghost a: { Arrays }
-    requires blocks_value { arrays lengths.now bytes.now superblocks.now blocks.now ≡ a }
-    requires ready { Ready s shape a starts.now × (rank < shape.vocabulary) }
-    ensures { WayOf s a.bytes starts.now rank result }
+    requires { let a : Arrays = arrays lengths.now bytes.now superblocks.now blocks.now in Ready s shape a starts.now × (rank < shape.vocabulary) }
+    ensures { let a : Arrays = arrays lengths.now bytes.now superblocks.now blocks.now in WayOf s a.bytes starts.now rank result }
 {
     let node = tree::node_of(s, rank);
     let byte = tree::closing_byte(s, rank);
@@ -157,10 +155,8 @@ pub fn place_along(
     near: Near,
     j: usize,
 ) -> Next
-    ghost a: { Arrays }
-    requires blocks_value { arrays lengths.now bytes.now superblocks.now blocks.now ≡ a }
-    requires ready { Ready s shape a starts.now × (rank < shape.vocabulary) × WayOf s a.bytes starts.now rank way × (j < frequency (text_in s a) rank) }
-    ensures { result.place.0 ≡ nth rank j (text_in s a) }
+    requires { let a : Arrays = arrays lengths.now bytes.now superblocks.now blocks.now in Ready s shape a starts.now × (rank < shape.vocabulary) × WayOf s a.bytes starts.now rank way × (j < frequency (text_in s a) rank) }
+    ensures { let a : Arrays = arrays lengths.now bytes.now superblocks.now blocks.now in result.place.0 ≡ nth rank j (text_in s a) }
 {
     let first = way.first;
     let low = nth_in_node(
@@ -320,7 +316,7 @@ pub fn track_from(
     rank: usize,
     place: Place,
 ) -> Track
-    requires ready { let a : Arrays = arrays lengths.now bytes.now superblocks.now blocks.now in Ready s shape a starts.now × (rank < shape.vocabulary) × (place.0 ≤ length (text_in s a)) }
+    requires { let a : Arrays = arrays lengths.now bytes.now superblocks.now blocks.now in Ready s shape a starts.now × (rank < shape.vocabulary) × (place.0 ≤ length (text_in s a)) }
     ensures { let a : Arrays = arrays lengths.now bytes.now superblocks.now blocks.now in TrackOf s a.bytes starts.now rank result × (result.ordinal ≡ occurrences_below (text_in s a) rank place.0) }
 {
     let passed = words::count_below(
@@ -368,10 +364,8 @@ pub fn piece_along(
     track: Track,
     exact: bool,
 ) -> Stretch
-    ghost a: { Arrays }
-    requires blocks_value { arrays lengths.now bytes.now superblocks.now blocks.now ≡ a }
-    requires ready { Ready s shape a starts.now × (rank < shape.vocabulary) × WayOf s a.bytes starts.now rank way × TrackOf s a.bytes starts.now rank track × (track.ordinal < frequency (text_in s a) rank) }
-    ensures { (result.from ≤ nth rank track.ordinal (text_in s a)) × (nth rank track.ordinal (text_in s a) < result.to)
+    requires { let a : Arrays = arrays lengths.now bytes.now superblocks.now blocks.now in Ready s shape a starts.now × (rank < shape.vocabulary) × WayOf s a.bytes starts.now rank way × TrackOf s a.bytes starts.now rank track × (track.ordinal < frequency (text_in s a) rank) }
+    ensures { let a : Arrays = arrays lengths.now bytes.now superblocks.now blocks.now in (result.from ≤ nth rank track.ordinal (text_in s a)) × (nth rank track.ordinal (text_in s a) < result.to)
         × TrackOf s a.bytes starts.now rank result.track × (result.track.ordinal ≡ track.ordinal + 1) }
 {
     let first = way.first;

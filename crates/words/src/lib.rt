@@ -122,7 +122,7 @@ fn position_in(
     node: usize,
     place: Place,
 ) -> Position
-    requires ready { let a : Arrays = arrays lengths.now bytes.now superblocks.now blocks.now in Ready s shape a starts.now × (node < length lengths.now) × (place.0 ≤ length (text_in s a)) }
+    requires { let a : Arrays = arrays lengths.now bytes.now superblocks.now blocks.now in Ready s shape a starts.now × (node < length lengths.now) × (place.0 ≤ length (text_in s a)) }
     ensures { let a : Arrays = arrays lengths.now bytes.now superblocks.now blocks.now in result.0 ≡ position s node place.0 (text_in s a) }
 {
     if node == 0 {
@@ -155,10 +155,8 @@ pub fn word_at(
     starts: &[u32],
     place: Place,
 ) -> u32
-    ghost a: { Arrays }
-    requires blocks_value { arrays lengths.now bytes.now superblocks.now blocks.now ≡ a }
-    requires ready { Ready s shape a starts.now × (place.0 < length (text_in s a)) }
-    ensures { result ≡ rank_at (text_in s a) place.0 }
+    requires { let a : Arrays = arrays lengths.now bytes.now superblocks.now blocks.now in Ready s shape a starts.now × (place.0 < length (text_in s a)) }
+    ensures { let a : Arrays = arrays lengths.now bytes.now superblocks.now blocks.now in result ≡ rank_at (text_in s a) place.0 }
 {
     let least = 256 - s;
     let mut node = 0;
@@ -194,10 +192,8 @@ pub fn count_below(
     rank: usize,
     place: Place,
 ) -> Below
-    ghost a: { Arrays }
-    requires blocks_value { arrays lengths.now bytes.now superblocks.now blocks.now ≡ a }
-    requires ready { Ready s shape a starts.now × (rank < shape.vocabulary) × (place.0 ≤ length (text_in s a)) }
-    ensures { BelowOf s a.bytes starts.now rank result × (result.count ≡ occurrences_below (text_in s a) rank place.0) }
+    requires { let a : Arrays = arrays lengths.now bytes.now superblocks.now blocks.now in Ready s shape a starts.now × (rank < shape.vocabulary) × (place.0 ≤ length (text_in s a)) }
+    ensures { let a : Arrays = arrays lengths.now bytes.now superblocks.now blocks.now in BelowOf s a.bytes starts.now rank result × (result.count ≡ occurrences_below (text_in s a) rank place.0) }
 {
     let node = tree::node_of(s, rank);
     let byte = tree::closing_byte(s, rank);
@@ -228,7 +224,7 @@ pub fn occurrences_below(
     rank: usize,
     place: Place,
 ) -> usize
-    requires ready { let a : Arrays = arrays lengths.now bytes.now superblocks.now blocks.now in Ready s shape a starts.now × (rank < shape.vocabulary) × (place.0 ≤ length (text_in s a)) }
+    requires { let a : Arrays = arrays lengths.now bytes.now superblocks.now blocks.now in Ready s shape a starts.now × (rank < shape.vocabulary) × (place.0 ≤ length (text_in s a)) }
     ensures { let a : Arrays = arrays lengths.now bytes.now superblocks.now blocks.now in result ≡ occurrences_below (text_in s a) rank place.0 }
 {
     count_below(
@@ -258,10 +254,8 @@ pub fn frequency_by(
     rank: usize,
     first: Step,
 ) -> usize
-    ghost a: { Arrays }
-    requires blocks_value { arrays lengths.now bytes.now superblocks.now blocks.now ≡ a }
-    requires ready { Ready s shape a starts.now × (rank < shape.vocabulary) × StepIn a.bytes starts.now (node_of s rank) (closing_byte s rank) first }
-    ensures { result ≡ frequency (text_in s a) rank }
+    requires { let a : Arrays = arrays lengths.now bytes.now superblocks.now blocks.now in Ready s shape a starts.now × (rank < shape.vocabulary) × StepIn a.bytes starts.now (node_of s rank) (closing_byte s rank) first }
+    ensures { let a : Arrays = arrays lengths.now bytes.now superblocks.now blocks.now in result ≡ frequency (text_in s a) rank }
 {
     let node = first.node;
     let size = lengths[node] as usize;
@@ -280,10 +274,8 @@ pub fn frequency(
     starts: &[u32],
     rank: usize,
 ) -> usize
-    ghost a: { Arrays }
-    requires blocks_value { arrays lengths.now bytes.now superblocks.now blocks.now ≡ a }
-    requires ready { Ready s shape a starts.now × (rank < shape.vocabulary) }
-    ensures { result ≡ frequency (text_in s a) rank }
+    requires { let a : Arrays = arrays lengths.now bytes.now superblocks.now blocks.now in Ready s shape a starts.now × (rank < shape.vocabulary) }
+    ensures { let a : Arrays = arrays lengths.now bytes.now superblocks.now blocks.now in result ≡ frequency (text_in s a) rank }
 {
     let node = tree::node_of(s, rank);
     let byte = tree::closing_byte(s, rank);

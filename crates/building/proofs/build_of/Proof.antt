@@ -11,67 +11,62 @@ use Rattle.building.proofs.build_of.Tie as tie
 abbrev slices : tie.Start → Arrays
 slices c = arrays c.args.lengths.now c.args.bytes.now c.args.superblocks.now c.args.blocks.now
 
-measure-of-requires : tie.Need-measure-of-requires
+measure-of-requires : tie.Need-measure_of-measured-requires
 measure-of-requires c κs = search rules
 
-returns : tie.Need-returns
-returns c = let start = c.before.before.before.before.before.before.before.before.before in
-    let answer = its_answer start.args.s start.args.shape start.args.text.now c.before.before.before.measure-of.ensures in
-    let r = build_stopped start.args.s start.args.shape start.args.text.now (slices start) (turned_down start.args.s start.args.shape start.args.text.now answer c.before.if1.true) in
+returns : tie.Need-returns-then-measured-ne0
+returns c = let answer = its_answer c.args.s c.args.shape c.args.text.now c.measure_of-measured.ensures in
+    let r = build_stopped c.args.s c.args.shape c.args.text.now (slices (c.before.before.before.before.before.before.before.before.before)) (turned_down c.args.s c.args.shape c.args.text.now answer c.if-measured-ne0.true) in
     (answer ∙ sym r.0, sym r.1)
 
-too-short-requires : tie.Need-too-short-requires
-too-short-requires c κs = let start = c.before.before.before.before.before.before.before.before.before.before.before.before in
-    size_tested start.args.s start.args.shape start.args.text.now start.requires c.before.before.before.before.before.before.measure-of.ensures c.before.before.before.before.if1.false
+too-short-requires : tie.Need-too_short-requires
+too-short-requires c κs = size_tested c.args.s c.args.shape c.args.text.now c.requires c.measure_of-measured.ensures c.if-measured-ne0.false
 
 refused-requires : tie.Need-refused-requires
 refused-requires c κs = search rules
 
-same_length : tie.Need-same-length
+same_length : tie.Need-shape_of-lengths-then-too_short
 same_length c = search rules
 
-same-length-2 : tie.Need-same-length-2
+same-length-2 : tie.Need-shape_of-bytes-then-too_short
 same-length-2 c = search rules
 
-same-length-3 : tie.Need-same-length-3
+same-length-3 : tie.Need-shape_of-superblocks-then-too_short
 same-length-3 c = search rules
 
-same-length-4 : tie.Need-same-length-4
+same-length-4 : tie.Need-shape_of-blocks-then-too_short
 same-length-4 c = search rules
 
-returns-2 : tie.Need-returns-2
-returns-2 c = let start = c.before.before.before.before.before.before.before.before.before.before.before.before.before.before.before in
-    short_built start.args.s start.args.shape start.args.text.now start.requires c.before.before.before.before.before.before.before.before.before.measure-of.ensures c.before.before.before.before.before.before.before.if1.false (slices start)
-    c.refused.ensures (sym c.before.before.too_short.ensures ∙ c.before.if2.true)
+returns-2 : tie.Need-returns-then-too_short
+returns-2 c = short_built c.args.s c.args.shape c.args.text.now c.requires c.measure_of-measured.ensures c.if-measured-ne0.false (slices (c.before.before.before.before.before.before.before.before.before.before.before))
+    c.refused.ensures (sym c.too_short.ensures ∙ c.if-too_short.true)
 
-write-index-requires : tie.Need-write-index-requires
-write-index-requires c κs = let start = c.before.before.before.before.before.before.before.before.before.before.before.before.before.before.before.before.before.before in
-    let measured = c.before.before.before.before.before.before.before.before.before.before.before.before.measure-of.ensures in
-    let zero = c.before.before.before.before.before.before.before.before.before.before.if1.false in
-    (long_buildable start.args.s start.args.shape start.args.text.now start.requires measured zero (slices start) (sym c.before.before.before.before.before.too_short.ensures ∙ c.before.before.before.before.if2.false), measured_size start.args.s start.args.shape start.args.text.now start.requires measured zero)
+write-index-requires : tie.Need-write_index-requires
+write-index-requires c κs = let measured = c.measure_of-measured.ensures in
+    let zero = c.if-measured-ne0.false in
+    (long_buildable c.args.s c.args.shape c.args.text.now c.requires measured zero (slices (c.before.before.before.before.before.before.before.before.before.before.before.before.before.before)) (sym c.too_short.ensures ∙ c.if-too_short.false), measured_size c.args.s c.args.shape c.args.text.now c.requires measured zero)
 
 accepted-requires : tie.Need-accepted-requires
 accepted-requires c κs = search rules
 
-same-length-5 : tie.Need-same-length-5
+same-length-5 : tie.Need-shape_of-lengths
 same-length-5 c = search rules
 
-same-length-6 : tie.Need-same-length-6
+same-length-6 : tie.Need-shape_of-bytes
 same-length-6 c = search rules
 
-same-length-7 : tie.Need-same-length-7
+same-length-7 : tie.Need-shape_of-superblocks
 same-length-7 c = search rules
 
-same-length-8 : tie.Need-same-length-8
+same-length-8 : tie.Need-shape_of-blocks
 same-length-8 c = search rules
 
-returns-3 : tie.Need-returns-3
-returns-3 c = let start = c.before.before.before.before.before.before.before.before.before.before.before.before.before.before.before.before.before.before.before.before.before.before.before.before.before.before.before.before in
-    long_built start.args.s start.args.shape start.args.text.now start.requires c.before.before.before.before.before.before.before.before.before.before.before.before.before.before.before.before.before.before.before.before.before.before.measure-of.ensures c.before.before.before.before.before.before.before.before.before.before.before.before.before.before.before.before.before.before.before.before.if1.false (slices start)
-    c.accepted.ensures c.before.before.before.before.before.before.before.before.before.write-index.ensures (sym c.before.before.before.before.before.before.before.before.before.before.before.before.before.before.before.too_short.ensures ∙ c.before.before.before.before.before.before.before.before.before.before.before.before.before.before.if2.false)
+returns-3 : tie.Need-returns
+returns-3 c = long_built c.args.s c.args.shape c.args.text.now c.requires c.measure_of-measured.ensures c.if-measured-ne0.false (slices (c.before.before.before.before.before.before.before.before.before.before.before.before.before.before.before.before.before.before.before.before.before.before.before.before))
+    c.accepted.ensures c.write_index.ensures (sym c.too_short.ensures ∙ c.if-too_short.false)
 
-pub build-of-spec : {M : Type 1} → statement M
-build-of-spec =
+pub build_of_spec : {M : Type 1} → statement M
+build_of_spec =
     tie.close
     (tie.spec
     measure-of-requires

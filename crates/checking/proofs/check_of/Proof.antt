@@ -14,35 +14,35 @@ abbrev four : tie.Start → Arrays
 four c = arrays c.args.lengths.now c.args.bytes.now c.args.superblocks.now c.args.blocks.now
 
 -- past the first test V, B and b are within their limits
-within : (c : tie.Else1) → WithinLimits c.before.before.before.before.before.before.args.s c.before.before.before.before.before.before.args.shape
-within c = limits_zero c.before.before.before.before.before.before.args.s c.before.before.before.before.before.before.args.shape (sym c.before.limits-refusal.ensures ∙ c.if1.false)
+within : (c : tie.Else-refused-ne0) → WithinLimits c.args.s c.args.shape
+within c = limits_zero c.args.s c.args.shape (sym c.limits_refusal-refused.ensures ∙ c.if-refused-ne0.false)
 
-limits-refusal-requires : tie.Need-limits-refusal-requires
+limits-refusal-requires : tie.Need-limits_refusal-refused-requires
 limits-refusal-requires c κs = search rules
 
 refused-requires : tie.Need-refused-requires
 refused-requires c κs = search rules
 
-returns : tie.Need-returns
-returns c = c.refused.ensures ∙ ap refused c.before.before.limits-refusal.ensures ∙ sym (check_refused c.before.before.before.before.before.before.before.args.s c.before.before.before.before.before.before.before.args.shape (four c.before.before.before.before.before.before.before) (λ e. c.before.if1.true (c.before.before.limits-refusal.ensures ∙ e)))
+returns : tie.Need-returns-then-refused-ne0
+returns c = c.refused.ensures ∙ ap refused c.limits_refusal-refused.ensures ∙ sym (check_refused c.args.s c.args.shape (four (c.before.before.before.before.before.before.before)) (λ e. c.if-refused-ne0.true (c.limits_refusal-refused.ensures ∙ e)))
 
 passes-requires : tie.Need-passes-requires
-passes-requires c κs = (c.before.before.before.before.before.before.requires, within c)
+passes-requires c κs = (c.requires, within c)
 
-refused-requires-2 : tie.Need-refused-requires-2
+refused-requires-2 : tie.Need-refused-requires-then-not-passes
 refused-requires-2 c κs = search rules
 
-returns-2 : tie.Need-returns-2
-returns-2 c = c.refused2.ensures ∙ sym (check_fails c.before.before.before.before.before.before.before.before.before.args.s c.before.before.before.before.before.before.before.before.before.args.shape (four c.before.before.before.before.before.before.before.before.before) (within c.before.before.before) (sym c.before.before.passes.ensures ∙ not-true _ c.before.if2.true))
+returns-2 : tie.Need-returns-then-not-passes
+returns-2 c = c.refused-then-not-passes.ensures ∙ sym (check_fails c.args.s c.args.shape (four (c.before.before.before.before.before.before.before.before.before)) (within (c.before.before.before)) (sym c.passes.ensures ∙ c.if-not-passes.true))
 
 accepted-requires : tie.Need-accepted-requires
 accepted-requires c κs = search rules
 
-returns-3 : tie.Need-returns-3
-returns-3 c = c.accepted.ensures ∙ sym (limits_check c.before.before.before.before.before.before.before.before.before.args.s c.before.before.before.before.before.before.before.before.before.requires c.before.before.before.before.before.before.before.before.before.args.shape (four c.before.before.before.before.before.before.before.before.before) (within c.before.before.before) (sym c.before.before.passes.ensures ∙ not-false _ c.before.if2.false))
+returns-3 : tie.Need-returns
+returns-3 c = c.accepted.ensures ∙ sym (limits_check c.args.s c.requires c.args.shape (four (c.before.before.before.before.before.before.before.before.before)) (within (c.before.before.before)) (sym c.passes.ensures ∙ c.if-not-passes.false))
 
-pub check-of-spec : {M : Type 1} → statement M
-check-of-spec =
+pub check_of_spec : {M : Type 1} → statement M
+check_of_spec =
     tie.close
     (tie.spec
     limits-refusal-requires

@@ -6,16 +6,17 @@ use Rattle.lexicon.specs.Letters.{within, letter_of, letters}
 use Rattle.finding.proofs.find_word.Statement.{statement}
 use Rattle.finding.proofs.find_word.Tie as tie
 
-slice-aggregate-find-word-by : tie.Need-slice-aggregate-find-word-by
-slice-aggregate-find-word-by c = search rules
-
-find-word-by-requires : tie.Need-find-word-by-requires
+find-word-by-requires : tie.Need-find_word_by-requires
 unfolding within outside letter_of letters
 find-word-by-requires c κs = letters_rule
 
 returns : tie.Need-returns
 unfolding within outside letter_of letters
-returns c = c.find-word-by.ensures
+returns c = c.find_word_by.ensures
 
-pub find-word-spec : {M : Type 1} → statement M
-find-word-spec = tie.close (tie.spec slice-aggregate-find-word-by find-word-by-requires returns)
+pub find_word_spec : {M : Type 1} → statement M
+find_word_spec =
+    tie.close
+    (tie.spec
+    find-word-by-requires
+    returns)

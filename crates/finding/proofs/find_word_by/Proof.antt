@@ -14,55 +14,54 @@ use Rattle.finding.proofs.find_word_by.Statement.{statement}
 use Rattle.finding.proofs.find_word_by.Tie as tie
 
 -- past the tests of the number of words, it is within its limits
-inside : (c : tie.Else2) → outside 1 (max_vocabulary 128) (list_size c.before.before.before.before.before.before.args.list.now) ≡ false
-inside c = inside_range 1 (max_vocabulary 128) _ (omega (arith, c.before.before.list-size.ensures, c.before.if1.false)) (omega (arith, c.before.before.list-size.ensures, c.if2.false))
+inside : (c : tie.Else-words-gt-MAX_VOCABULARY) → outside 1 (max_vocabulary 128) (list_size c.args.list.now) ≡ false
+inside c = inside_range 1 (max_vocabulary 128) _ (omega (arith, c.list_size-words.ensures, c.if-words-lt1.false)) (omega (arith, c.list_size-words.ensures, c.if-words-gt-MAX_VOCABULARY.false))
 
-list-size-requires : tie.Need-list-size-requires
+list-size-requires : tie.Need-list_size-words-requires
 list-size-requires c κs = search rules
 
 refused-requires : tie.Need-refused-requires
 refused-requires c κs = search rules
 
-returns : tie.Need-returns
+returns : tie.Need-returns-then-words-lt1
 returns c =
-    let a = c.before.before.before.before.before.before.args in
+    let a = c.args in
     c.refused.ensures
-    ∙ sym (find_vocabulary a.table.now a.list.now a.spelling.now (below_range 1 (max_vocabulary 128) (list_size a.list.now) (omega (arith, c.before.before.list-size.ensures, c.before.if1.true))))
+    ∙ sym (find_vocabulary a.table.now a.list.now a.spelling.now (below_range 1 (max_vocabulary 128) (list_size a.list.now) (omega (arith, c.list_size-words.ensures, c.if-words-lt1.true))))
 
-refused-requires-2 : tie.Need-refused-requires-2
+refused-requires-2 : tie.Need-refused-requires-then-words-gt-MAX_VOCABULARY
 refused-requires-2 c κs = search rules
 
-returns-2 : tie.Need-returns-2
+returns-2 : tie.Need-returns-then-words-gt-MAX_VOCABULARY
 returns-2 c =
-    let a = c.before.before.before.before.before.before.before.args in
-    c.refused2.ensures
-    ∙ sym (find_vocabulary a.table.now a.list.now a.spelling.now (above_range 1 (max_vocabulary 128) (list_size a.list.now) (omega (arith, c.before.before.before.list-size.ensures, c.before.if2.true))))
+    let a = c.args in
+    c.refused-then-words-gt-MAX_VOCABULARY.ensures
+    ∙ sym (find_vocabulary a.table.now a.list.now a.spelling.now (above_range 1 (max_vocabulary 128) (list_size a.list.now) (omega (arith, c.list_size-words.ensures, c.if-words-gt-MAX_VOCABULARY.true))))
 
-is-written-requires : tie.Need-is-written-requires
+is-written-requires : tie.Need-is_written-requires
 is-written-requires c κs = search rules
 
-refused-requires-3 : tie.Need-refused-requires-3
+refused-requires-3 : tie.Need-refused-requires-then-not-is_written
 refused-requires-3 c κs = search rules
 
-returns-3 : tie.Need-returns-3
+returns-3 : tie.Need-returns-then-not-is_written
 returns-3 c =
-    let a = c.before.before.before.before.before.before.before.before.before.args in
-    let w = c.before.before.is-written in
-    c.refused3.ensures
-    ∙ sym (find_list a.table.now a.list.now a.spelling.now (inside c.before.before.before) (list_unwritten a.table.now a.list.now (sym w.ensures ∙ not-true w.result c.before.if3.true)))
+    let a = c.args in
+    let w = c.is_written in
+    c.refused-then-not-is_written.ensures
+    ∙ sym (find_list a.table.now a.list.now a.spelling.now (inside (c.before.before.before)) (list_unwritten a.table.now a.list.now (sym w.ensures ∙ c.if-not-is_written.true)))
 
-find-by-written-requires : tie.Need-find-by-written-requires
+find-by-written-requires : tie.Need-find_by_written-requires
 find-by-written-requires c κs =
-    let st = c.before.before.before.before.before.before.before.before in
-    let w = c.before.is-written in
-    let n = c.before.before.before.before.list-size.ensures in
-    (st.requires, sym w.ensures ∙ not-false w.result c.if3.false, n, ap (outside 1 (max_vocabulary 128)) n ∙ inside c.before.before)
+    let w = c.is_written in
+    let n = c.list_size-words.ensures in
+    (c.requires, sym w.ensures ∙ c.if-not-is_written.false, n, ap (outside 1 (max_vocabulary 128)) n ∙ inside (c.before.before))
 
-returns-4 : tie.Need-returns-4
+returns-4 : tie.Need-returns
 returns-4 c = search rules
 
-pub find-word-by-spec : {M : Type 1} → statement M
-find-word-by-spec =
+pub find_word_by_spec : {M : Type 1} → statement M
+find_word_by_spec =
     tie.close
     (tie.spec
     list-size-requires

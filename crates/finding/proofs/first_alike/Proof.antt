@@ -18,12 +18,12 @@ use Rattle.scanning.specs.Scans.{run_at, start_from, WordBegins}
 use Rattle.finding.proofs.first_alike.Statement.{statement}
 use Rattle.finding.proofs.first_alike.Tie as tie
 
-abbrev invariant-loop : tie.invariant-loop
+abbrev invariant-loop : tie.invariant-loop-rank
 invariant-loop table list words spelling at₀ rank₀ at rank =
     (rank ≤ words) × WordBegins table list at × WordsBefore table list at rank
     × ((q : ℕ) → q < rank → same (run_at table spelling 0) (get_or (spellings table list) q []) ≡ false)
 
-abbrev decreases-loop : tie.decreases-loop
+abbrev decreases-loop : tie.decreases-loop-rank
 decreases-loop table list words spelling at₀ rank₀ at rank = words - rank
 
 -- the word at the position, and that it is the next of the list
@@ -41,84 +41,82 @@ module _ (table list : List ℕ) (at rank : ℕ) (b : WordBegins table list at) 
   behind = words_before_more table list at rank _ 1 w (ap (drop 1) (sym step.words))
 
 -- the same at a place of the loop
-module _ (c : tie.In-loop invariant-loop decreases-loop) where
+module _ (c : tie.In-loop-rank invariant-loop decreases-loop) where
   abbrev start : tie.Start invariant-loop decreases-loop
-  start = c.before.before.before.before.before.before
+  start = c
 
-  inside : c.before.loop.rank < length (spellings start.args.table.now start.args.list.now)
-  inside = omega (arith, c.loop-test.true, start.pre.1)
+  inside : c.loop-rank.rank < length (spellings start.args.table.now start.args.list.now)
+  inside = omega (arith, c.loop-rank-test.true, start.requires.1)
 
-  word_next : Next start.args.table.now start.args.list.now c.before.loop.at
-  word_next = step start.args.table.now start.args.list.now c.before.loop.at c.before.loop.rank c.before.loop.invariant.1 c.before.loop.invariant.2 inside
+  word_next : Next start.args.table.now start.args.list.now c.loop-rank.at
+  word_next = step start.args.table.now start.args.list.now c.loop-rank.at c.loop-rank.rank c.loop-rank.invariant.1 c.loop-rank.invariant.2 inside
 
-  word-here : get_or (spellings start.args.table.now start.args.list.now) c.before.loop.rank [] ≡ run_at start.args.table.now start.args.list.now c.before.loop.at
-  word-here = here start.args.table.now start.args.list.now c.before.loop.at c.before.loop.rank c.before.loop.invariant.1 c.before.loop.invariant.2 inside
+  word-here : get_or (spellings start.args.table.now start.args.list.now) c.loop-rank.rank [] ≡ run_at start.args.table.now start.args.list.now c.loop-rank.at
+  word-here = here start.args.table.now start.args.list.now c.loop-rank.at c.loop-rank.rank c.loop-rank.invariant.1 c.loop-rank.invariant.2 inside
 
 -- whether the word at the position is alike
-alike : (c : tie.After-same-word invariant-loop decreases-loop) → c.same_word.result
-    ≡ same (run_at (start c.before).args.table.now (start c.before).args.spelling.now 0) (get_or (spellings (start c.before).args.table.now (start c.before).args.list.now) c.before.before.loop.rank [])
+alike : (c : tie.After-same_word invariant-loop decreases-loop) → c.same_word.result
+    ≡ same (run_at (start (c.before)).args.table.now (start (c.before)).args.spelling.now 0) (get_or (spellings (start (c.before)).args.table.now (start (c.before)).args.list.now) c.loop-rank.rank [])
 alike c =
-    let a = (start c.before).args in
-    c.same_word.ensures ∙ ap (same (run_at a.table.now a.spelling.now 0)) (sym (word-here c.before))
+    let a = (start (c.before)).args in
+    c.same_word.ensures ∙ ap (same (run_at a.table.now a.spelling.now 0)) (sym (word-here (c.before)))
 
 -- the next word begins behind the end of this one
-stepped : (c : tie.After-word-start2 invariant-loop decreases-loop) → let a = (start c.before.before.before.before).args in
-    c.word-start2.result ≡ start_from a.table.now a.list.now (c.before.before.before.before.before.loop.at + length (run_at a.table.now a.list.now c.before.before.before.before.before.loop.at))
+stepped : (c : tie.After-word_start-at-in-loop-rank invariant-loop decreases-loop) → let a = (start (c.before.before.before.before)).args in
+    c.word_start-at-in-loop-rank.result ≡ start_from a.table.now a.list.now (c.loop-rank.at + length (run_at a.table.now a.list.now c.loop-rank.at))
 stepped c =
-    let a = (start c.before.before.before.before).args in
-    c.word-start2.ensures ∙ ap (start_from a.table.now a.list.now) c.before.scan-word.ensures.0
+    let a = (start (c.before.before.before.before)).args in
+    c.word_start-at-in-loop-rank.ensures ∙ ap (start_from a.table.now a.list.now) c.scan_word-scan.ensures.0
 
-word-start-requires : tie.Need-word-start-requires invariant-loop decreases-loop
+word-start-requires : tie.Need-word_start-at-requires invariant-loop decreases-loop
 word-start-requires c κs = search rules
 
-loop-holds : tie.Need-loop-init invariant-loop decreases-loop
+loop-holds : tie.Need-loop-rank-init invariant-loop decreases-loop
 loop-holds c =
-    let a = c.before.before.before.before.args in
-    rw c.word-start.ensures (omega arith, begins a.table.now a.list.now 0 (omega arith), words_before_first a.table.now a.list.now, λ q (h : q < 0). absurd (omega arith))
+    let a = c.args in
+    rw c.word_start-at.ensures (omega arith, begins a.table.now a.list.now 0 (omega arith), words_before_first a.table.now a.list.now, λ q (h : q < 0). absurd (omega arith))
 
-same-word-requires : tie.Need-same-word-requires invariant-loop decreases-loop
-same-word-requires c κs = ((start c).requires.0, omega arith, c.before.loop.invariant.1.inside)
+same-word-requires : tie.Need-same_word-requires invariant-loop decreases-loop
+same-word-requires c κs = ((start c).requires.0, omega arith, c.loop-rank.invariant.1.inside)
 
-returns : tie.Need-returns invariant-loop decreases-loop
+returns : tie.Need-returns-then-same_word invariant-loop decreases-loop
 unfolding list_rank
 returns c =
-    let a = (start c.before.before).args in
-    sym (first_where_at (same (run_at a.table.now a.spelling.now 0)) (spellings a.table.now a.list.now) [] c.before.before.before.loop.rank (inside c.before.before) c.before.before.before.loop.invariant.3
-    (sym (alike c.before) ∙ c.if1.true))
+    let a = (start (c.before.before)).args in
+    sym (first_where_at (same (run_at a.table.now a.spelling.now 0)) (spellings a.table.now a.list.now) [] c.loop-rank.rank (inside (c.before.before)) c.loop-rank.invariant.3
+    (sym (alike (c.before)) ∙ c.if-same_word.true))
 
-scan-word-requires : tie.Need-scan-word-requires invariant-loop decreases-loop
-scan-word-requires c κs = ((start c.before.before).pre.0, c.before.before.before.loop.invariant.1.inside)
+scan-word-requires : tie.Need-scan_word-scan-requires invariant-loop decreases-loop
+scan-word-requires c κs = ((start (c.before.before)).requires.0, c.loop-rank.invariant.1.inside)
 
-word-start-requires-2 : tie.Need-word-start-requires-2 invariant-loop decreases-loop
-word-start-requires-2 c κs = ((start c.before.before.before).pre.0, rw c.scan-word.ensures.0 (word_next c.before.before.before).inside)
+word-start-requires-2 : tie.Need-word_start-at-requires-in-loop-rank invariant-loop decreases-loop
+word-start-requires-2 c κs = ((start (c.before.before.before)).requires.0, rw c.scan_word-scan.ensures.0 (word_next (c.before.before.before)).inside)
 
-add-rank : tie.Need-overflow-add-rank invariant-loop decreases-loop
+add-rank : tie.Need-overflow_add-rank invariant-loop decreases-loop
 add-rank c = search rules
 
-loop-less : tie.Need-loop-smaller invariant-loop decreases-loop
+loop-less : tie.Need-loop-rank-smaller invariant-loop decreases-loop
 loop-less c = search rules
 
-loop-again : tie.Need-loop-preserved invariant-loop decreases-loop
+loop-again : tie.Need-loop-rank-preserved invariant-loop decreases-loop
 loop-again c =
-    let i = c.before.before.before.before in
-    let a = (start i).args in
-    let l = i.before.loop in (
-      omega (arith, i.loop-test.true),
-      rw (stepped c) (word_next i).begun,
-      rw (stepped c) (behind a.table.now a.list.now l.at l.rank l.invariant.1 l.invariant.2 (inside i)),
-      below_more _ l.rank l.invariant.3 (sym (alike c.before.before.before) ∙ c.before.before.if1.false),
+    let a = (start (c.before.before.before.before)).args in
+    let l = c.loop-rank in (
+      omega (arith, c.loop-rank-test.true),
+      rw (stepped c) (word_next (c.before.before.before.before)).begun,
+      rw (stepped c) (behind a.table.now a.list.now l.at l.rank l.invariant.1 l.invariant.2 (inside (c.before.before.before.before))),
+      below_more _ l.rank l.invariant.3 (sym (alike (c.before.before.before)) ∙ c.if-same_word.false),
     )
 
-returns-2 : tie.Need-returns-2 invariant-loop decreases-loop
+returns-2 : tie.Need-returns invariant-loop decreases-loop
 unfolding list_rank
 returns-2 c =
-    let st = c.before.before.before.before.before.before in
-    let l = c.before.loop in
-    let e : l.rank ≡ length (spellings st.args.table.now st.args.list.now) = omega (arith, l.invariant.0, c.loop-test.false, st.requires.1) in
-    e ∙ sym (first_where_none (same (run_at st.args.table.now st.args.spelling.now 0)) (spellings st.args.table.now st.args.list.now) [] (rw (← e) l.invariant.3))
+    let l = c.loop-rank in
+    let e : l.rank ≡ length (spellings c.args.table.now c.args.list.now) = omega (arith, l.invariant.0, c.loop-rank-test.false, c.requires.1) in
+    e ∙ sym (first_where_none (same (run_at c.args.table.now c.args.spelling.now 0)) (spellings c.args.table.now c.args.list.now) [] (rw (← e) l.
 
-pub first-alike-spec : {M : Type 1} → statement M
-first-alike-spec =
+pub first_alike_spec : {M : Type 1} → statement M
+first_alike_spec =
     tie.close
     (tie.spec
     invariant-loop

@@ -6,24 +6,27 @@ use Rattle.finding.proofs.Ranks.{rank_of_run, rank_of_cut}
 use Rattle.finding.proofs.rank_of.Statement.{statement}
 use Rattle.finding.proofs.rank_of.Tie as tie
 
-scan-word-requires : tie.Need-scan-word-requires
-scan-word-requires c κs = (c.before.before.before.requires.0, omega arith)
+scan-word-requires : tie.Need-scan_word-scan-requires
+scan-word-requires c κs = (c.requires.0, omega arith)
 
-returns : tie.Need-returns
+returns : tie.Need-returns-then-scan-spelling
 returns c =
-    let st = c.before.before.before.before.before.before in
-    st.requires.2 ∙ sym (rank_of_cut st.args.table.now st.args.list.now st.requires.1 st.args.spelling.now (omega (arith, c.before.before.scan-word.ensures.0, c.if1.true)))
+    c.requires.2 ∙ sym (rank_of_cut c.args.table.now c.args.list.now c.requires.1 c.args.spelling.now (omega (arith, c.scan_word-scan.ensures.0, c.if-scan-spelling.true)))
 
-first-alike-requires : tie.Need-first-alike-requires
+first-alike-requires : tie.Need-first_alike-requires
 first-alike-requires c κs =
-    let st = c.before.before.before.before.before.before in
-    (st.requires.0, st.requires.2 ∙ list_sized st.args.table.now st.requires.0 st.args.list.now st.requires.1)
+    (c.requires.0, c.requires.2 ∙ list_sized c.args.table.now c.requires.0 c.args.list.now c.requires.1)
 
-returns-2 : tie.Need-returns-2
+returns-2 : tie.Need-returns
 returns-2 c =
-    let st = c.before.before.before.before.before.before.before in
     c.first_alike.ensures
-    ∙ rank_of_run st.args.table.now st.args.list.now st.requires.1 st.requires.0 st.args.spelling.now (omega (arith, c.before.before.before.scan-word.ensures.0, c.before.if1.false))
+    ∙ rank_of_run c.args.table.now c.args.list.now c.requires.1 c.requires.0 c.args.spelling.now (omega (arith, c.scan_word-scan.ensures.0, c.if-scan-spelling.false))
 
-pub rank-of-spec : {M : Type 1} → statement M
-rank-of-spec = tie.close (tie.spec scan-word-requires returns first-alike-requires returns-2)
+pub rank_of_spec : {M : Type 1} → statement M
+rank_of_spec =
+    tie.close
+    (tie.spec
+    scan-word-requires
+    returns
+    first-alike-requires
+    returns-2)

@@ -6,20 +6,21 @@ use Rattle.lexicon.specs.Letters.{within, letter_of, letters}
 use Rattle.plain_text.proofs.read_text.Statement.{statement}
 use Rattle.plain_text.proofs.read_text.Tie as tie
 
-slice-aggregate-read-text-by : tie.Need-slice-aggregate-read-text-by
-slice-aggregate-read-text-by c = search rules
-
-read-text-by-requires : tie.Need-read-text-by-requires
+read-text-by-requires : tie.Need-read_text_by-requires
 unfolding within outside letter_of letters
 read-text-by-requires c κs = letters_rule
 
-same_length : tie.Need-same-length
+same_length : tie.Need-shape_of-ranks
 same_length c = search rules
 
 returns : tie.Need-returns
 unfolding within outside letter_of letters
-returns c = c.before.before.read-text-by.ensures
+returns c = c.read_text_by.ensures
 
-pub read-text-spec : {M : Type 1} → statement M
-read-text-spec =
-    tie.close (tie.spec slice-aggregate-read-text-by read-text-by-requires same_length returns)
+pub read_text_spec : {M : Type 1} → statement M
+read_text_spec =
+    tie.close
+    (tie.spec
+    read-text-by-requires
+    same_length
+    returns)

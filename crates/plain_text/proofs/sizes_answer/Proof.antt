@@ -14,55 +14,50 @@ use Rattle.plain_text.proofs.sizes_answer.Statement.{statement}
 use Rattle.plain_text.proofs.sizes_answer.Tie as tie
 
 -- past the tests of the list's size, it is within its limits
-size-inside : (c : tie.Else2) → outside 1 (max_vocabulary 128) c.before.before.before.before.args.words ≡ false
-size-inside c = inside_range 1 (max_vocabulary 128) c.before.before.before.before.args.words (omega (arith, c.before.if1.false)) (omega (arith, c.if2.false))
+size-inside : (c : tie.Else-words-gt-MAX_VOCABULARY) → outside 1 (max_vocabulary 128) c.args.words ≡ false
+size-inside c = inside_range 1 (max_vocabulary 128) c.args.words (omega (arith, c.if-words-lt1.false)) (omega (arith, c.if-words-gt-MAX_VOCABULARY.false))
 
 refused-requires : tie.Need-refused-requires
 refused-requires c κs = search rules
 
-returns : tie.Need-returns
-returns c = let st = c.before.before.before.before in
-    c.refused.ensures ∙ sym (sizes_vocabulary st.args.words (length (text_words st.args.table.now st.args.text.now)) st.args.room
-    (below_range 1 (max_vocabulary 128) st.args.words (omega (arith, c.before.if1.true))))
+returns : tie.Need-returns-then-words-lt1
+returns c = c.refused.ensures ∙ sym (sizes_vocabulary c.args.words (length (text_words c.args.table.now c.args.text.now)) c.args.room
+    (below_range 1 (max_vocabulary 128) c.args.words (omega (arith, c.if-words-lt1.true))))
 
-refused-requires-2 : tie.Need-refused-requires-2
+refused-requires-2 : tie.Need-refused-requires-then-words-gt-MAX_VOCABULARY
 refused-requires-2 c κs = search rules
 
-returns-2 : tie.Need-returns-2
-returns-2 c = let st = c.before.before.before.before.before in
-    c.refused2.ensures ∙ sym (sizes_vocabulary st.args.words (length (text_words st.args.table.now st.args.text.now)) st.args.room
-    (above_range 1 (max_vocabulary 128) st.args.words (omega (arith, c.before.if2.true))))
+returns-2 : tie.Need-returns-then-words-gt-MAX_VOCABULARY
+returns-2 c = c.refused-then-words-gt-MAX_VOCABULARY.ensures ∙ sym (sizes_vocabulary c.args.words (length (text_words c.args.table.now c.args.text.now)) c.args.room
+    (above_range 1 (max_vocabulary 128) c.args.words (omega (arith, c.if-words-gt-MAX_VOCABULARY.true))))
 
-text-size-requires : tie.Need-text-size-requires
+text-size-requires : tie.Need-text_size-size-requires
 text-size-requires c κs = search rules
 
-refused-requires-3 : tie.Need-refused-requires-3
+refused-requires-3 : tie.Need-refused-requires-then-size-gt-MAX_WORDS
 refused-requires-3 c κs = search rules
 
-returns-3 : tie.Need-returns-3
-returns-3 c = let st = c.before.before.before.before.before.before.before in
-    c.refused3.ensures ∙ sym (sizes_words st.args.words (length (text_words st.args.table.now st.args.text.now)) st.args.room (size-inside c.before.before.before)
-    (omega (arith, c.before.before.text-size.ensures, c.before.if3.true)))
+returns-3 : tie.Need-returns-then-size-gt-MAX_WORDS
+returns-3 c = c.refused-then-size-gt-MAX_WORDS.ensures ∙ sym (sizes_words c.args.words (length (text_words c.args.table.now c.args.text.now)) c.args.room (size-inside (c.before.before.before))
+    (omega (arith, c.text_size-size.ensures, c.if-size-gt-MAX_WORDS.true)))
 
-refused-requires-4 : tie.Need-refused-requires-4
+refused-requires-4 : tie.Need-refused-requires-then-room-size
 refused-requires-4 c κs = search rules
 
-returns-4 : tie.Need-returns-4
-returns-4 c = let st = c.before.before.before.before.before.before.before.before in
-    c.refused4.ensures ∙ sym (sizes_short st.args.words (length (text_words st.args.table.now st.args.text.now)) st.args.room (size-inside c.before.before.before.before)
-    (omega (arith, c.before.before.before.text-size.ensures, c.before.before.if3.false)) (omega (arith, c.before.before.before.text-size.ensures, c.before.if4.true)))
+returns-4 : tie.Need-returns-then-room-size
+returns-4 c = c.refused-then-room-size.ensures ∙ sym (sizes_short c.args.words (length (text_words c.args.table.now c.args.text.now)) c.args.room (size-inside (c.before.before.before.before))
+    (omega (arith, c.text_size-size.ensures, c.if-size-gt-MAX_WORDS.false)) (omega (arith, c.text_size-size.ensures, c.if-room-size.true)))
 
 accepted-requires : tie.Need-accepted-requires
 accepted-requires c κs = search rules
 
-returns-5 : tie.Need-returns-5
-returns-5 c = let st = c.before.before.before.before.before.before.before.before in
-    let e = c.before.before.before.text-size.ensures in
-    c.accepted.ensures ∙ ap accepted e ∙ sym (sizes_none st.args.words (length (text_words st.args.table.now st.args.text.now)) st.args.room (size-inside c.before.before.before.before)
-    (omega (arith, e, c.before.before.if3.false)) (omega (arith, e, c.before.if4.false)))
+returns-5 : tie.Need-returns
+returns-5 c = let e = c.text_size-size.ensures in
+    c.accepted.ensures ∙ ap accepted e ∙ sym (sizes_none c.args.words (length (text_words c.args.table.now c.args.text.now)) c.args.room (size-inside (c.before.before.before.before))
+    (omega (arith, e, c.if-size-gt-MAX_WORDS.false)) (omega (arith, e, c.if-room-size.false)))
 
-pub sizes-answer-spec : {M : Type 1} → statement M
-sizes-answer-spec =
+pub sizes_answer_spec : {M : Type 1} → statement M
+sizes_answer_spec =
     tie.close
     (tie.spec
     refused-requires
