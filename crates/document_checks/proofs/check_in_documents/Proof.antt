@@ -19,57 +19,54 @@ abbrev four : tie.Start → Arrays
 four c = arrays c.args.lengths.now c.args.bytes.now c.args.superblocks.now c.args.blocks.now
 
 -- past the first test the slices have passed the check
-module _ (c : tie.Else1) where
+module _ (c : tie.Else-checked-ne0) where
   abbrev start : tie.Start
-  start = c.before.before.before.before.before.before.before.before
+  start = c
 
   none : (check_answer start.args.s start.args.shape (four start)).refusal ≡ 0
-  none = ap (λ (r : Answer). r.refusal) (sym c.before.before.check-of.ensures) ∙ c.if1.false
+  none = ap (λ (r : Answer). r.refusal) (sym c.check_of-checked.ensures) ∙ c.if-checked-ne0.false
 
   checked : Checked start.args.s start.args.shape (four start)
-  checked = accepted_checked start.args.s start.pre start.args.shape (four start) none
+  checked = accepted_checked start.args.s start.requires start.args.shape (four start) none
 
 -- the rules are those of starts in their text
-rules : (c : tie.After-are-starts) → let st = start c.before.before in
-    c.are-starts.result ≡ are_starts (length (text_in st.args.s (four st))) st.args.documents.now
+rules : (c : tie.After-are_starts) → let st = start (c.before.before) in
+    c.are_starts.result ≡ are_starts (length (text_in st.args.s (four st))) st.args.documents.now
 rules c =
-    let st = start c.before.before in
-    c.are-starts.ensures ∙ ap (λ n. are_starts n st.args.documents.now) (c.before.text-length.ensures.1 _ _ _ _ _ (checked c.before.before))
+    let st = start (c.before.before) in
+    c.are_starts.ensures ∙ ap (λ n. are_starts n st.args.documents.now) (c.text_length.ensures.1 _ _ _ _ _ (checked (c.before.before)))
 
-check-of-requires : tie.Need-check-of-requires
+check-of-requires : tie.Need-check_of-checked-requires
 check-of-requires c κs = search rules
 
-returns : tie.Need-returns
+returns : tie.Need-returns-then-checked-ne0
 returns c =
-    let st = c.before.before.before.before.before.before.before.before in
-    c.before.before.check-of.ensures
-    ∙ sym (check_in_index st.args.s st.args.shape (four st) st.args.documents.now (λ e. c.if1.true (ap (λ (r : Answer). r.refusal) c.before.before.check-of.ensures ∙ e)))
+    c.check_of-checked.ensures
+    ∙ sym (check_in_index c.args.s c.args.shape (four (c.before.before.before.before.before.before.before.before)) c.args.documents.now (λ e. c.if-checked-ne0.true (ap (λ (r : Answer). r.refusal) c.check_of-checked.ensures ∙ e)))
 
-text-length-requires : tie.Need-text-length-requires
+text-length-requires : tie.Need-text_length-requires
 text-length-requires c κs = checked_some (checked c)
 
-are-starts-requires : tie.Need-are-starts-requires
+are-starts-requires : tie.Need-are_starts-requires
 are-starts-requires c κs = search rules
 
 refused-requires : tie.Need-refused-requires
 refused-requires c κs = search rules
 
-returns-2 : tie.Need-returns-2
+returns-2 : tie.Need-returns-then-not-are_starts
 returns-2 c =
-    let at = c.before.before.before.before in
-    let st = start at in
-    c.refused.ensures ∙ sym (check_in_starts st.args.s st.args.shape (four st) st.args.documents.now (none at) (sym (rules c.before.before) ∙ not-true c.before.before.are-starts.result c.before.if2.true))
+    let st = start (c.before.before.before.before) in
+    c.refused.ensures ∙ sym (check_in_starts st.args.s st.args.shape (four st) st.args.documents.now (none (c.before.before.before.before)) (sym (rules (c.before.before)) ∙ c.if-not-are_starts.true))
 
-returns-3 : tie.Need-returns-3
+returns-3 : tie.Need-returns
 returns-3 c =
-    let at = c.before.before.before in
-    let st = start at in
-    at.before.before.check-of.ensures
-    ∙ check_passed st.args.s st.args.shape (four st) (none at)
-    ∙ sym (check_in_passed st.args.s st.args.shape (four st) st.args.documents.now (check_passed st.args.s st.args.shape (four st) (none at)) (sym (rules c.before) ∙ not-false c.before.are-starts.result c.if2.false))
+    let st = start (c.before.before.before) in
+    c.check_of-checked.ensures
+    ∙ check_passed st.args.s st.args.shape (four st) (none (c.before.before.before))
+    ∙ sym (check_in_passed st.args.s st.args.shape (four st) st.args.documents.now (check_passed st.args.s st.args.shape (four st) (none (c.before.before.before))) (sym (rules (c.before)) ∙ not-false c.are_starts.result c.if-not-are_starts.fals
 
-pub check-in-documents-spec : {M : Type 1} → statement M
-check-in-documents-spec =
+pub check_in_documents_spec : {M : Type 1} → statement M
+check_in_documents_spec =
     tie.close
     (tie.spec
     check-of-requires

@@ -113,7 +113,7 @@ unfolding list_rank
 returns-2 c =
     let l = c.loop-rank in
     let e : l.rank ≡ length (spellings c.args.table.now c.args.list.now) = omega (arith, l.invariant.0, c.loop-rank-test.false, c.requires.1) in
-    e ∙ sym (first_where_none (same (run_at c.args.table.now c.args.spelling.now 0)) (spellings c.args.table.now c.args.list.now) [] (rw (← e) l.
+    e ∙ sym (first_where_none (same (run_at c.args.table.now c.args.spelling.now 0)) (spellings c.args.table.now c.args.list.now) [] (rw (← e) l.invariant.3))
 
 pub first_alike_spec : {M : Type 1} → statement M
 first_alike_spec =

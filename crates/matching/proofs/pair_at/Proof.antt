@@ -32,56 +32,50 @@ decides : (documents t : List ℕ) (w v : ℕ) (d : ℤ) (q : ℕ) → q < lengt
 unfolding neighbour_in
 decides documents t w v d q h e = ap (λ (b : Bool). same_document documents q (nat_abs (pos q +ℤ d)) && b) (sym (neighbour_test t w v d q h e))
 
-shared-slice-read-first : tie.Need-shared-slice-read-first
+shared-slice-read-first : tie.Need-bounds-words-0
 shared-slice-read-first c = search rules
 
-cast-first : tie.Need-overflow-cast-first
-cast-first c = omega (arith, c.shared-slice-known9.given 0)
+cast-first : tie.Need-overflow_cast-first
+cast-first c = omega (arith, c.shared_slice_known-9-1.given 0)
 
-agrees-at-requires : tie.Need-agrees-at-requires
+agrees-at-requires : tie.Need-agrees_at-requires
 agrees-at-requires c κs = search rules
 
-abbrev start : tie.After-agrees-at → tie.Start
-start c = c.before.before.before.before.before.before.before.before.before.before
-
-returns : tie.Need-returns
+returns : tie.Need-returns-then-not-agrees_at
 returns c =
-    let st = start c.before in
-    let t = text_in st.args.s (arrays st.args.lengths.now st.args.bytes.now st.args.superblocks.now st.args.blocks.now) in
-    let ws = st.args.words.now in
-    sym (differs st.args.documents.now t (get_or ws 0 0) (get_or ws 1 0) st.args.offset st.args.place.0 (eqb-false _ _ (sym c.before.agrees_at.ensures ∙ not-true c.before.agrees_at.result c.if1.true)))
+    let t = text_in c.args.s (arrays c.args.lengths.now c.args.bytes.now c.args.superblocks.now c.args.blocks.now) in
+    let ws = c.args.words.now in
+    sym (differs c.args.documents.now t (get_or ws 0 0) (get_or ws 1 0) c.args.offset c.args.place.0 (eqb-false _ _ (sym c.agrees_at.ensures ∙ c.if-not-agrees_at.true)))
 
-shared-slice-read-neighbour-at : tie.Need-shared-slice-read-neighbour-at
+shared-slice-read-neighbour-at : tie.Need-bounds-firsts-1
 shared-slice-read-neighbour-at c =
-    let st = start c.before.before in
-    omega (arith, st.pre.1, ap length st.pre.0.firsts_are, first_bytes_length st.args.s st.args.words.now)
+    omega (arith, c.requires.1, ap length c.requires.0.firsts_are, first_bytes_length c.args.s c.args.words.now)
 
-shared-slice-read-neighbour-at-2 : tie.Need-shared-slice-read-neighbour-at-2
+shared-slice-read-neighbour-at-2 : tie.Need-bounds-words-1
 shared-slice-read-neighbour-at-2 c = search rules
 
-cast-neighbour-at : tie.Need-overflow-cast-neighbour-at
-cast-neighbour-at c = omega (arith, c.shared-slice-known11.given 1)
+cast-neighbour-at : tie.Need-overflow_cast-words
+cast-neighbour-at c = omega (arith, c.shared_slice_known-11-1.given 1)
 
-neighbour-at-requires : tie.Need-neighbour-at-requires
+neighbour-at-requires : tie.Need-neighbour_at-requires
 neighbour-at-requires c κs =
-    let st = start c.before.before.before in (
-      st.pre.0.searchable.ready,
-      st.pre.2,
-      ap (λ (x : List ℕ). get_or x 1 0) st.pre.0.firsts_are ∙ first_byte_at st.args.s st.args.words.now 1 (omega (arith, st.pre.1)),
-      st.pre.3,
+    (
+      c.requires.0.searchable.ready,
+      c.requires.2,
+      ap (λ (x : List ℕ). get_or x 1 0) c.requires.0.firsts_are ∙ first_byte_at c.args.s c.args.words.now 1 (omega (arith, c.requires.1)),
+      c.requires.3,
     )
 
-returns-2 : tie.Need-returns-2
+returns-2 : tie.Need-returns
 returns-2 c =
-    let st = start c.before.before.before.before in
-    let t = text_in st.args.s (arrays st.args.lengths.now st.args.bytes.now st.args.superblocks.now st.args.blocks.now) in
-    let ws = st.args.words.now in
-    c.neighbour-at.ensures
-    ∙ ap (λ (z : ℤ). same_document st.args.documents.now st.args.place.0 (nat_abs (pos st.args.place.0 +ℤ z)) && stands_at t (get_or ws 1 0) (pos st.args.place.0 +ℤ z)) (to_z-of_z st.fits.offset)
-    ∙ decides st.args.documents.now t (get_or ws 0 0) (get_or ws 1 0) st.args.offset st.args.place.0 st.pre.2 (eqb-true _ _ (sym c.before.before.before.before.agrees_at.ensures ∙ not-false c.before.before.before.before.agrees_at.result c.before.before.before.if1.false))
+    let t = text_in c.args.s (arrays c.args.lengths.now c.args.bytes.now c.args.superblocks.now c.args.blocks.now) in
+    let ws = c.args.words.now in
+    c.neighbour_at.ensures
+    ∙ ap (λ (z : ℤ). same_document c.args.documents.now c.args.place.0 (nat_abs (pos c.args.place.0 +ℤ z)) && stands_at t (get_or ws 1 0) (pos c.args.place.0 +ℤ z)) (to_z-of_z c.fits.offset)
+    ∙ decides c.args.documents.now t (get_or ws 0 0) (get_or ws 1 0) c.args.offset c.args.place.0 c.requires.2 (eqb-true _ _ (sym c.agrees_at.ensures ∙ not-false c.agrees_at.res
 
-pub pair-at-spec : {M : Type 1} → statement M
-pair-at-spec =
+pub pair_at_spec : {M : Type 1} → statement M
+pair_at_spec =
     tie.close
     (tie.spec
     shared-slice-read-first

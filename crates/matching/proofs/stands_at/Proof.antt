@@ -17,80 +17,72 @@ use Rattle.matching.proofs.FirstBytes.{first_bytes_length, first_bytes_differ}
 use Rattle.matching.proofs.stands_at.Statement.{statement}
 use Rattle.matching.proofs.stands_at.Tie as tie
 
-text-length-requires : tie.Need-text-length-requires
-text-length-requires c κs = checked_some c.before.before.before.before.before.before.before.before.requires.0.searchable.ready.checked
+text-length-requires : tie.Need-text_length-n-requires
+text-length-requires c κs = checked_some c.requires.0.searchable.ready.checked
 
 -- the text, and its length as it is read
 abbrev text : tie.Start → List ℕ
 text st = text_in st.args.s (arrays st.args.lengths.now st.args.bytes.now st.args.superblocks.now st.args.blocks.now)
 
-abbrev start : tie.After-text-length → tie.Start
-start c = c.before.before.before.before.before.before.before.before.before
+abbrev start : tie.After-text_length-n → tie.Start
+start c = c
 
-size : (c : tie.After-text-length) → c.text-length.result ≡ length (text (start c))
-size c = c.text-length.ensures.1 _ _ _ _ _ (start c).requires.0.searchable.ready.checked
+size : (c : tie.After-text_length-n) → c.text_length-n.result ≡ length (text (start c))
+size c = c.text_length-n.ensures.1 _ _ _ _ _ c.requires.0.searchable.ready.checked
 
-add-if1 : tie.Need-overflow-add-if1
+add-if1 : tie.Need-overflow_add-place
 add-if1 c =
-    let st = start c.before in
-    omega (arith, st.pre.0.searchable.most, st.pre.1, text_most st.pre.0.searchable.ready.checked)
+    omega (arith, c.requires.0.searchable.most, c.requires.1, text_most c.requires.0.searchable.ready.checked)
 
-returns : tie.Need-returns
+returns : tie.Need-returns-then-n-place
 returns c =
-    let st = start c.before.before in
-    sym (past_in st.args.documents.now (text st) st.args.words.now st.args.place.0 (omega (arith, size c.before.before)))
+    sym (past_in c.args.documents.now (text (c.before.before.before.before.before.before.before.before.before.before.before)) c.args.words.now c.args.place.0 (omega (arith, size (c.before.before))))
 
-root-position-requires : tie.Need-root-position-requires
+root-position-requires : tie.Need-root_position-requires
 root-position-requires c κs = search rules
 
 -- the place as a position of the root
-at_place : (c : tie.After-root-position) → c.root-position.result.0 ≡ (start c.before.before.before).args.place.0
-at_place c = ap (λ (x : Position). x.0) c.root-position.ensures
+at_place : (c : tie.After-root_position) → c.root_position.result.0 ≡ c.args.place.0
+at_place c = ap (λ (x : Position). x.0) c.root_position.ensures
 
-bytes-stand-requires : tie.Need-bytes-stand-requires
+bytes-stand-requires : tie.Need-bytes_stand-alike-requires
 bytes-stand-requires c κs =
-    let st = start c.before.before.before in
     omega (
       arith,
       at_place c,
-      size c.before.before.before,
-      root_inside st.pre.0.searchable.ready.checked,
-      ap length st.pre.0.firsts_are,
-      first_bytes_length st.args.s st.args.words.now,
+      size (c.before.before.before),
+      root_inside c.requires.0.searchable.ready.checked,
+      ap length c.requires.0.firsts_are,
+      first_bytes_length c.args.s c.args.words.now,
     )
 
-returns-2 : tie.Need-returns-2
+returns-2 : tie.Need-returns-then-not-alike
 returns-2 c =
-    let st = start c.before.before.before.before.before in
-    let e : stands st.args.bytes.now st.args.firsts.now st.args.place.0 ≡ false =
-    ap (stands st.args.bytes.now st.args.firsts.now) (sym (at_place c.before.before)) ∙ sym c.before.bytes-stand.ensures ∙ not-true c.before.bytes-stand.result c.if2.true in
-    sym (nowhere_in st.args.documents.now (text st) st.args.words.now st.args.place.0 (first_bytes_differ st.pre.0.searchable.ready st.args.words.now st.args.place.0 (ap (λ (x : List ℕ). stands st.args.bytes.now x st.args.place.0) (sym st.pre.0.firsts_are) ∙ e)))
+    let e : stands c.args.bytes.now c.args.firsts.now c.args.place.0 ≡ false =
+    ap (stands c.args.bytes.now c.args.firsts.now) (sym (at_place (c.before.before))) ∙ sym c.bytes_stand-alike.ensures ∙ c.if-not-alike.true in
+    sym (nowhere_in c.args.documents.now (text (c.before.before.before.before.before.before.before.before.before.before.before.before.before.before)) c.args.words.now c.args.place.0 (first_bytes_differ c.requires.0.searchable.ready c.args.words.now c.args.place.0 (ap (λ (x : List ℕ). stands c.args.bytes.now x c.args.place.0) (sym c.requires.0.firsts_are) ∙ e)))
 
-in-one-document-requires : tie.Need-in-one-document-requires
+in-one-document-requires : tie.Need-in_one_document-together-requires
 in-one-document-requires c κs =
-    let st = start c.before.before.before.before.before in
-    (st.pre.2, omega (arith, size c.before.before.before.before.before, text_most st.pre.0.searchable.ready.checked))
+    (c.requires.2, omega (arith, size (c.before.before.before.before.before), text_most c.requires.0.searchable.ready.checked))
 
-returns-3 : tie.Need-returns-3
+returns-3 : tie.Need-returns-then-not-together
 returns-3 c =
-    let st = start c.before.before.before.before.before.before.before in
-    sym (apart_in st.args.documents.now (text st) st.args.words.now st.args.place.0
-    (sym c.before.in-one-document.ensures ∙ not-true c.before.in-one-document.result c.if3.true))
+    sym (apart_in c.args.documents.now (text (c.before.before.before.before.before.before.before.before.before.before.before.before.before.before.before.before)) c.args.words.now c.args.place.0
+    (sym c.in_one_document-together.ensures ∙ c.if-not-together.true))
 
-words-stand-requires : tie.Need-words-stand-requires
+words-stand-requires : tie.Need-words_stand-same-requires
 words-stand-requires c κs =
-    let st = start c.before.before.before.before.before.before.before in
-    (st.pre.0.searchable.ready, omega (arith, size c.before.before.before.before.before.before.before))
+    (c.requires.0.searchable.ready, omega (arith, size (c.before.before.before.before.before.before.before)))
 
-returns-4 : tie.Need-returns-4
+returns-4 : tie.Need-returns
 returns-4 c =
-    let st = start c.before.before.before.before.before.before.before.before in
-    c.words-stand.ensures
-    ∙ sym (together_in st.args.documents.now (text st) st.args.words.now st.args.place.0
-    (sym c.before.before.in-one-document.ensures ∙ not-false c.before.before.in-one-document.result c.before.if3.false))
+    c.words_stand-same.ensures
+    ∙ sym (together_in c.args.documents.now (text (c.before.before.before.before.before.before.before.before.before.before.before.before.before.before.before.before.before)) c.args.words.now c.args.place.0
+    (sym c.in_one_document-together.ensures ∙ not-false c.be
 
-pub stands-at-spec : {M : Type 1} → statement M
-stands-at-spec =
+pub stands_at_spec : {M : Type 1} → statement M
+stands_at_spec =
     tie.close
     (tie.spec
     text-length-requires

@@ -12,64 +12,60 @@ use Rattle.index.specs.Arrays.{arrays, text_in}
 use Rattle.passages.proofs.read_passage.Statement.{statement}
 use Rattle.passages.proofs.read_passage.Tie as tie
 
-abbrev invariant-loop : tie.invariant-loop
+abbrev invariant-loop : tie.invariant-loop-i
 invariant-loop s shape lengths bytes superblocks blocks starts place ranks₀ i₀ ranks i = (i ≤ length ranks₀) × (ranks ≡ front (take i (drop place.0 (text_in s (arrays lengths bytes superblocks blocks)))) ranks₀) × (length ranks ≡ length ranks₀)
 
-abbrev decreases-loop : tie.decreases-loop
+abbrev decreases-loop : tie.decreases-loop-i
 decreases-loop s shape lengths bytes superblocks blocks starts place ranks₀ i₀ ranks i = length ranks₀ - i
 
-loop-holds : tie.Need-loop-init invariant-loop decreases-loop
-loop-holds c = (omega arith, sym (front_none c.before.before.before.before.before.before.args.ranks.now), refl)
+loop-holds : tie.Need-loop-i-init invariant-loop decreases-loop
+loop-holds c = (omega arith, sym (front_none c.args.ranks.now), refl)
 
-add-ranks : tie.Need-overflow-add-ranks invariant-loop decreases-loop
+add-ranks : tie.Need-overflow_add-at invariant-loop decreases-loop
 add-ranks c =
-    let st = c.before.before.before.before.before.before.before.before.before in
-    omega (arith, st.requires.1, text_most st.requires.0.checked)
+    omega (arith, c.requires.1, text_most c.requires.0.checked)
 
-word-at-requires : tie.Need-word-at-requires invariant-loop decreases-loop
+word-at-requires : tie.Need-word_at-requires invariant-loop decreases-loop
 word-at-requires c κs =
-    let st = c.before.before.before.before.before.before.before.before.before in
-    (st.requires.0, omega (arith, st.requires.1))
+    (c.requires.0, omega (arith, c.requires.1))
 
-mul-ranks : tie.Need-overflow-mul-ranks invariant-loop decreases-loop
+mul-ranks : tie.Need-offset_bounds-ranks-i invariant-loop decreases-loop
 mul-ranks c = search rules
 
-slice-write-ranks : tie.Need-slice-write-ranks invariant-loop decreases-loop
+slice-write-ranks : tie.Need-bounds-ranks-i invariant-loop decreases-loop
 slice-write-ranks c = search rules
 
-add-i : tie.Need-overflow-add-i invariant-loop decreases-loop
+add-i : tie.Need-overflow_add-i invariant-loop decreases-loop
 add-i c = search rules
 
-loop-less : tie.Need-loop-smaller invariant-loop decreases-loop
+loop-less : tie.Need-loop-i-smaller invariant-loop decreases-loop
 loop-less c = search rules
 
-loop-again : tie.Need-loop-preserved invariant-loop decreases-loop
+loop-again : tie.Need-loop-i-preserved invariant-loop decreases-loop
 loop-again c =
-    let st = c.before.before.before.before.before.before.before.before.before.before in
-    let t = text_in st.args.s (arrays st.args.lengths.now st.args.bytes.now st.args.superblocks.now st.args.blocks.now) in
-    let l = c.before.before.before.loop in
-    let here : c.word_at.result ≡ get_or (drop st.args.place.0 t) l.i 0 = c.word_at.ensures ∙ sym (get_or-drop st.args.place.0 t l.i 0) in (
+    let t = text_in c.args.s (arrays c.args.lengths.now c.args.bytes.now c.args.superblocks.now c.args.blocks.now) in
+    let l = c.loop-i in
+    let here : c.word_at.result ≡ get_or (drop c.args.place.0 t) l.i 0 = c.word_at.ensures ∙ sym (get_or-drop c.args.place.0 t l.i 0) in (
       omega arith,
-      rw (l.invariant.1, here) (front_next (drop st.args.place.0 t) st.args.ranks.now l.i (omega (arith, st.requires.1, length-drop st.args.place.0 t)) (omega arith)),
+      rw (l.invariant.1, here) (front_next (drop c.args.place.0 t) c.args.ranks.now l.i (omega (arith, c.requires.1, length-drop c.args.place.0 t)) (omega arith)),
       length-set l.ranks l.i c.word_at.result ∙ l.invariant.2,
     )
 
-same_length : tie.Need-same-length invariant-loop decreases-loop
-same_length c = c.before.loop.invariant.2
+same_length : tie.Need-shape_of-ranks invariant-loop decreases-loop
+same_length c = c.loop-i.invariant.2
 
 returns : tie.Need-returns invariant-loop decreases-loop
 returns c =
-    let st = c.before.before.before.before.before.before.before.before in
-    let t = text_in st.args.s (arrays st.args.lengths.now st.args.bytes.now st.args.superblocks.now st.args.blocks.now) in
-    let l = c.before.loop in
-    let m = length st.args.ranks.now in
+    let t = text_in c.args.s (arrays c.args.lengths.now c.args.bytes.now c.args.superblocks.now c.args.blocks.now) in
+    let l = c.loop-i in
+    let m = length c.args.ranks.now in
     let e : l.i ≡ m = omega arith in
-    let n : length (take m (drop st.args.place.0 t)) ≡ m = length-take-le m (drop st.args.place.0 t) (omega (arith, st.requires.1, length-drop st.args.place.0 t)) in
-    l.invariant.1 ∙ ap (λ (k : ℕ). front (take k (drop st.args.place.0 t)) st.args.ranks.now) e
-    ∙ front_whole (take m (drop st.args.place.0 t)) st.args.ranks.now n
+    let n : length (take m (drop c.args.place.0 t)) ≡ m = length-take-le m (drop c.args.place.0 t) (omega (arith, c.requires.1, length-drop c.args.place.0 t)) in
+    l.invariant.1 ∙ ap (λ (k : ℕ). front (take k (drop c.args.place.0 t)) c.args.ranks.now) e
+    ∙ front_whole (take m (drop c.args.place.0 t)) c.args.ranks.now n
 
-pub read-passage-spec : {M : Type 1} → statement M
-read-passage-spec =
+pub read_passage_spec : {M : Type 1} → statement M
+read_passage_spec =
     tie.close
     (tie.spec
     invariant-loop

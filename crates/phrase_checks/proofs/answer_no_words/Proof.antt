@@ -7,24 +7,29 @@ use Rattle.questions.proofs.NoWords.{no_words_counted, no_words_past}
 use Rattle.phrase_checks.proofs.answer_no_words.Statement.{statement}
 use Rattle.phrase_checks.proofs.answer_no_words.Tie as tie
 
-add-accepted : tie.Need-overflow-add-accepted
+add-accepted : tie.Need-overflow_add-n
 add-accepted c = search rules
 
 accepted-requires : tie.Need-accepted-requires
 accepted-requires c κs = search rules
 
-returns : tie.Need-returns
+returns : tie.Need-returns-then-start-words
 returns c vocab t documents e =
-    let st = c.before.before.before in
-    c.accepted.ensures ∙ ap accepted (omega arith) ∙ sym (no_words_counted vocab t documents st.args.words.now st.args.start 0 refl (omega (arith, c.before.if1.true)))
+    c.accepted.ensures ∙ ap accepted (omega arith) ∙ sym (no_words_counted vocab t documents c.args.words.now c.args.start 0 refl (omega (arith, c.if-start-words.true)))
 
 refused-requires : tie.Need-refused-requires
 refused-requires c κs = search rules
 
-returns-2 : tie.Need-returns-2
+returns-2 : tie.Need-returns
 returns-2 c vocab t documents e =
-    let st = c.before.before.before in
-    c.refused.ensures ∙ sym (no_words_past vocab t documents st.args.words.now st.args.start 0 refl (omega (arith, c.before.if1.false)))
+    c.refused.ensures ∙ sym (no_words_past vocab t documents c.args.words.now c.args.start 0 refl (omega (arith, c.if-start-words.false)))
 
-pub answer-no-words-spec : {M : Type 1} → statement M
-answer-no-words-spec = tie.close (tie.spec add-accepted accepted-requires returns refused-requires returns-2)
+pub answer_no_words_spec : {M : Type 1} → statement M
+answer_no_words_spec =
+    tie.close
+    (tie.spec
+    add-accepted
+    accepted-requires
+    returns
+    refused-requires
+    returns-2)

@@ -12,46 +12,44 @@ use Rattle.base.proofs.Lists.{first_where_at, first_where_none}
 use Rattle.phrase_checks.proofs.first_above.Statement.{statement}
 use Rattle.phrase_checks.proofs.first_above.Tie as tie
 
-abbrev invariant-loop : tie.invariant-loop
+abbrev invariant-loop : tie.invariant-loop-place
 invariant-loop phrase bound place₀ place = (place ≤ length phrase) × ((j : ℕ) → j < place → ltb bound (get_or phrase j 0) ≡ false)
 
-abbrev decreases-loop : tie.decreases-loop
+abbrev decreases-loop : tie.decreases-loop-place
 decreases-loop phrase bound place₀ place = length phrase - place
 
-loop-holds : tie.Need-loop-init invariant-loop decreases-loop
+loop-holds : tie.Need-loop-place-init invariant-loop decreases-loop
 loop-holds c = (omega arith, λ j (l : j < 0). absurd (omega arith))
 
-mul-rank : tie.Need-overflow-mul-rank invariant-loop decreases-loop
-mul-rank c = omega (arith, c.before.before.well-formed.0.1)
+mul-rank : tie.Need-offset_bounds-phrase-place invariant-loop decreases-loop
+mul-rank c = omega (arith, c.well_formed.0.1)
 
-shared-slice-read-rank : tie.Need-shared-slice-read-rank invariant-loop decreases-loop
+shared-slice-read-rank : tie.Need-bounds-phrase-place invariant-loop decreases-loop
 shared-slice-read-rank c = search rules
 
-cast-rank : tie.Need-overflow-cast-rank invariant-loop decreases-loop
-cast-rank c = omega (arith, c.shared-slice-known.given c.before.before.loop.place)
+cast-rank : tie.Need-overflow_cast-rank invariant-loop decreases-loop
+cast-rank c = omega (arith, c.shared_slice_known-1.given c.loop-place.place)
 
-returns : tie.Need-returns invariant-loop decreases-loop
+returns : tie.Need-returns-then-bound-rank invariant-loop decreases-loop
 returns c =
-    let loop = c.before.before.before in
-    sym (first_where_at (λ (w : ℕ). ltb loop.before.args.bound w) loop.before.args.phrase.now 0 loop.loop.place (omega arith) loop.loop.invariant.1 (lt-ltb _ _ c.if1.true))
+    sym (first_where_at (λ (w : ℕ). ltb c.args.bound w) c.args.phrase.now 0 c.loop-place.place (omega arith) c.loop-place.invariant.1 (lt-ltb _ _ c.if-bound-rank.true))
 
-add-place : tie.Need-overflow-add-place invariant-loop decreases-loop
+add-place : tie.Need-overflow_add-place invariant-loop decreases-loop
 add-place c = search rules
 
-loop-less : tie.Need-loop-smaller invariant-loop decreases-loop
+loop-less : tie.Need-loop-place-smaller invariant-loop decreases-loop
 loop-less c = search rules
 
-loop-again : tie.Need-loop-preserved invariant-loop decreases-loop
-loop-again c = (omega arith, below_more _ _ c.before.before.before.loop.invariant.1 (le-ltb _ _ c.if1.false))
+loop-again : tie.Need-loop-place-preserved invariant-loop decreases-loop
+loop-again c = (omega arith, below_more _ _ c.loop-place.invariant.1 (le-ltb _ _ c.if-bound-rank.false))
 
-returns-2 : tie.Need-returns-2 invariant-loop decreases-loop
+returns-2 : tie.Need-returns invariant-loop decreases-loop
 returns-2 c =
-    let loop = c.before in
-    let end : loop.loop.place ≡ length loop.before.args.phrase.now = omega arith in
-    sym (first_where_none (λ (w : ℕ). ltb loop.before.args.bound w) loop.before.args.phrase.now 0 (rw (← end) loop.loop.invariant.1) ∙ sym end)
+    let end : c.loop-place.place ≡ length c.args.phrase.now = omega arith in
+    sym (first_where_none (λ (w : ℕ). ltb c.args.bound w) c.args.phrase.now 0 (rw (← end) c.loop-place.invariant.1) ∙ sym end)
 
-pub first-above-spec : {M : Type 1} → statement M
-first-above-spec =
+pub first_above_spec : {M : Type 1} → statement M
+first_above_spec =
     tie.close
     (tie.spec
     invariant-loop

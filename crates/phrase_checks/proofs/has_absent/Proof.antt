@@ -11,31 +11,39 @@ use Rattle.questions.proofs.Answered.{part_length}
 use Rattle.phrase_checks.proofs.has_absent.Statement.{statement}
 use Rattle.phrase_checks.proofs.has_absent.Tie as tie
 
-add-end : tie.Need-overflow-add-end
+add-end : tie.Need-overflow_add-end
 add-end c = search rules
 
-mul-first-of : tie.Need-overflow-mul-first-of
+mul-first-of : tie.Need-offset_bounds-words-start
 mul-first-of c = search rules
 
-sub-first-of : tie.Need-overflow-sub-first-of
+sub-first-of : tie.Need-slice_bounds-first_of-count
 sub-first-of c = search rules
 
-part-first-of-start : tie.Need-slice-bounds-first-of-start
+part-first-of-start : tie.Need-slice_bounds-first_of-start
 part-first-of-start c = search rules
 
-part-first-of-end : tie.Need-slice-bounds-first-of-end
+part-first-of-end : tie.Need-slice_bounds-first_of-end
 part-first-of-end c = search rules
 
-first-of-requires : tie.Need-first-of-requires
+first-of-requires : tie.Need-first_of-place-requires
 first-of-requires c κs = search rules
 
 returns : tie.Need-returns
 unfolding has_absent phrase_in
 returns c =
-    let st = c.before.before.before in
-    let m : st.args.start + st.args.count - st.args.start ≡ st.args.count = omega arith in
-    let f = c.first_of.ensures ∙ ap (λ (k : ℕ). first_where (λ (w : ℕ). eqb w st.args.vocabulary) (take k (drop st.args.start st.args.words.now))) m in
-    ap₂ ltb f (sym (part_length st.args.vocabulary st.args.words.now st.args.start st.args.count st.requires))
+    let m : c.args.start + c.args.count - c.args.start ≡ c.args.count = omega arith in
+    let f = c.first_of-place.ensures ∙ ap (λ (k : ℕ). first_where (λ (w : ℕ). eqb w c.args.vocabulary) (take k (drop c.args.start c.args.words.now))) m in
+    ap₂ ltb f (sym (part_length c.args.vocabulary c.args.words.now c.args.start c.args.count c.requires))
 
-pub has-absent-spec : {M : Type 1} → statement M
-has-absent-spec = tie.close (tie.spec add-end mul-first-of sub-first-of part-first-of-start part-first-of-end first-of-requires returns)
+pub has_absent_spec : {M : Type 1} → statement M
+has_absent_spec =
+    tie.close
+    (tie.spec
+    add-end
+    mul-first-of
+    sub-first-of
+    part-first-of-start
+    part-first-of-end
+    first-of-requires
+    returns)

@@ -8,60 +8,55 @@ use Rattle.questions.proofs.Answered.{phrase_long, phrase_past, phrase_rank, phr
 use Rattle.phrase_checks.proofs.phrase_refusal.Statement.{statement}
 use Rattle.phrase_checks.proofs.phrase_refusal.Tie as tie
 
-returns : tie.Need-returns
+returns : tie.Need-returns-then-count-gt-MAX_PHRASE
 returns c =
-    let st = c.before.before in
-    sym (phrase_long st.args.vocabulary st.args.words.now st.args.start st.args.count c.if1.true)
+    sym (phrase_long c.args.vocabulary c.args.words.now c.args.start c.args.count c.if-count-gt-MAX_PHRASE.true)
 
-returns-2 : tie.Need-returns-2
+returns-2 : tie.Need-returns-then-words-start
 returns-2 c =
-    let st = c.before.before.before in
-    sym (phrase_past st.args.vocabulary st.args.words.now st.args.start st.args.count (omega (arith, c.if2.true)))
+    sym (phrase_past c.args.vocabulary c.args.words.now c.args.start c.args.count (omega (arith, c.if-words-start.true)))
 
-sub-if3 : tie.Need-overflow-sub-if3
+sub-if3 : tie.Need-overflow_sub-words
 sub-if3 c = search rules
 
-returns-3 : tie.Need-returns-3
+returns-3 : tie.Need-returns-then-words-start-2
 returns-3 c =
-    let st = c.before.before.before.before in
-    sym (phrase_past st.args.vocabulary st.args.words.now st.args.start st.args.count (omega (arith, c.if3.true, c.before.if2.false)))
+    sym (phrase_past c.args.vocabulary c.args.words.now c.args.start c.args.count (omega (arith, c.if-words-start-2.true, c.if-words-start.false)))
 
-add-end : tie.Need-overflow-add-end
+add-end : tie.Need-overflow_add-end
 add-end c = search rules
 
-mul-first-above : tie.Need-overflow-mul-first-above
+mul-first-above : tie.Need-offset_bounds-words-start
 mul-first-above c = search rules
 
-sub-first-above : tie.Need-overflow-sub-first-above
+sub-first-above : tie.Need-slice_bounds-first_above-count
 sub-first-above c = search rules
 
-part-first-above-start : tie.Need-slice-bounds-first-above-start
+part-first-above-start : tie.Need-slice_bounds-first_above-start
 part-first-above-start c = search rules
 
-part-first-above-end : tie.Need-slice-bounds-first-above-end
+part-first-above-end : tie.Need-slice_bounds-first_above-end
 part-first-above-end c = search rules
 
-first-above-requires : tie.Need-first-above-requires
+first-above-requires : tie.Need-first_above-place-requires
 first-above-requires c κs = search rules
 
-returns-4 : tie.Need-returns-4
+returns-4 : tie.Need-returns-then-place-count
 returns-4 c =
-    let st = c.before.before.before.before.before.before.before in
-    let m : st.args.start + st.args.count - st.args.start ≡ st.args.count = omega arith in
-    let inside : st.args.start + st.args.count ≤ length st.args.words.now = omega (arith, c.before.before.before.if3.false, c.before.before.before.before.if2.false) in
-    sym (phrase_rank st.args.vocabulary st.args.words.now st.args.start st.args.count c.before.before.before.before.before.if1.false inside
-    (part_above st.args.vocabulary st.args.words.now st.args.start st.args.count inside (st.args.start + st.args.count - st.args.start) c.before.first_above.result m c.before.first_above.ensures c.if4.true))
+    let m : c.args.start + c.args.count - c.args.start ≡ c.args.count = omega arith in
+    let inside : c.args.start + c.args.count ≤ length c.args.words.now = omega (arith, c.if-words-start-2.false, c.if-words-start.false) in
+    sym (phrase_rank c.args.vocabulary c.args.words.now c.args.start c.args.count c.if-count-gt-MAX_PHRASE.false inside
+    (part_above c.args.vocabulary c.args.words.now c.args.start c.args.count inside (c.args.start + c.args.count - c.args.start) c.first_above-place.result m c.first_above-place.ensures c.if-place-count.true))
 
-returns-5 : tie.Need-returns-5
+returns-5 : tie.Need-returns
 returns-5 c =
-    let st = c.before.before.before.before.before.before.before in
-    let m : st.args.start + st.args.count - st.args.start ≡ st.args.count = omega arith in
-    let inside : st.args.start + st.args.count ≤ length st.args.words.now = omega (arith, c.before.before.before.if3.false, c.before.before.before.before.if2.false) in
-    sym (phrase_none st.args.vocabulary st.args.words.now st.args.start st.args.count c.before.before.before.before.before.if1.false inside
-    (part_askable st.args.vocabulary st.args.words.now st.args.start st.args.count inside (st.args.start + st.args.count - st.args.start) c.before.first_above.result m c.before.first_above.ensures c.if4.false))
+    let m : c.args.start + c.args.count - c.args.start ≡ c.args.count = omega arith in
+    let inside : c.args.start + c.args.count ≤ length c.args.words.now = omega (arith, c.if-words-start-2.false, c.if-words-start.false) in
+    sym (phrase_none c.args.vocabulary c.args.words.now c.args.start c.args.count c.if-count-gt-MAX_PHRASE.false inside
+    (part_askable c.args.vocabulary c.args.words.now c.args.start c.args.count inside (c.args.start + c.args.count - c.args.start) c.first_above-place.result m c.first_above-place.ensures c.if-place-count.false))
 
-pub phrase-refusal-spec : {M : Type 1} → statement M
-phrase-refusal-spec =
+pub phrase_refusal_spec : {M : Type 1} → statement M
+phrase_refusal_spec =
     tie.close
     (tie.spec
     returns

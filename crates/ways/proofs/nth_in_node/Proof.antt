@@ -12,50 +12,47 @@ use Rattle.ways.proofs.nth_in_node.Statement.{statement}
 use Rattle.ways.proofs.nth_in_node.Tie as tie
 
 -- the occurrence is found as far from the node's start as it stands in the node
-found : (c : tie.After-struct-known2) → let a = c.before.before.before.before.before.before.before.before.args in
-    c.before.nth.result.at ≡ get_or a.starts.now a.step.node 0 + nth a.step.byte a.j (node_from a.bytes.now a.starts.now a.step.node)
+found : (c : tie.After-struct_known-2-1) → let a = c.args in
+    c.nth-found.result.at ≡ get_or a.starts.now a.step.node 0 + nth a.step.byte a.j (node_from a.bytes.now a.starts.now a.step.node)
 found c =
-    let start = c.before.before.before.before.before.before.before.before in
-    let a = start.args in
-    c.before.nth.ensures
-    ∙ rw start.requires.1.skipped_is (from_nth a.bytes.now a.starts.now a.step.node a.step.byte a.j start.requires.2)
+    let a = c.args in
+    c.nth-found.ensures
+    ∙ rw c.requires.1.skipped_is (from_nth a.bytes.now a.starts.now a.step.node a.step.byte a.j c.requires.2)
 
-mul-start : tie.Need-overflow-mul-start
+mul-start : tie.Need-offset_bounds-starts-node
 mul-start c = search rules
 
-shared-slice-read-start : tie.Need-shared-slice-read-start
+shared-slice-read-start : tie.Need-bounds-starts-node
 shared-slice-read-start c = search rules
 
-cast-start : tie.Need-overflow-cast-start
-cast-start c = omega (arith, c.shared-slice-known5.given c.before.before.before.before.before.args.step.node)
+cast-start : tie.Need-overflow_cast-start
+cast-start c = omega (arith, c.shared_slice_known-5-1.given c.args.step.node)
 
 -- neither number is above the number of bytes
-add-ordinal : tie.Need-overflow-add-ordinal
+add-ordinal : tie.Need-overflow_add-ordinal
 add-ordinal c =
-    let start = c.before.before.before.before.before.before in
-    let a = start.args in
+    let a = c.args in
     omega (
       arith,
-      start.requires.0.sizes.bytes_most,
-      start.requires.1.skipped_is,
+      c.requires.0.sizes.bytes_most,
+      c.requires.1.skipped_is,
       count_take_most a.step.byte (get_or a.starts.now a.step.node 0) a.bytes.now,
       count_most a.step.byte (node_from a.bytes.now a.starts.now a.step.node),
-      from_end a.bytes.now a.starts.now a.step.node (length (node_from a.bytes.now a.starts.now a.step.node)) start.requires.0.inside (omega arith),
+      from_end a.bytes.now a.starts.now a.step.node (length (node_from a.bytes.now a.starts.now a.step.node)) c.requires.0.inside (omega arith),
     )
 
-nth-requires : tie.Need-nth-requires
+nth-requires : tie.Need-nth-found-requires
 nth-requires c κs =
-    let start = c.before.before.before.before.before.before in
-    (start.requires.0.sizes, start.requires.0.directory)
+    (c.requires.0.sizes, c.requires.0.directory)
 
-sub_at : tie.Need-overflow-sub-at
+sub_at : tie.Need-overflow_sub-at
 sub_at c = omega (arith, found c)
 
 returns : tie.Need-returns
 returns c = omega (arith, found c)
 
-pub nth-in-node-spec : {M : Type 1} → statement M
-nth-in-node-spec =
+pub nth_in_node_spec : {M : Type 1} → statement M
+nth_in_node_spec =
     tie.close
     (tie.spec
     mul-start

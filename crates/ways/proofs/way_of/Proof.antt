@@ -15,115 +15,111 @@ use Rattle.ways.proofs.way_of.Statement.{statement}
 use Rattle.ways.proofs.way_of.Tie as tie
 
 -- the node of the rank is there
-here : (c : tie.After-node-of) → c.node_of.result < length c.before.before.before.before.before.before.args.lengths.now
+here : (c : tie.After-node_of-node) → c.node_of-node.result < length c.args.lengths.now
 here c =
-    let start = c.before.before.before.before.before.before in
-    rw c.node_of.ensures (end_there start.requires.0.checked start.args.rank start.requires.1)
+    rw c.node_of-node.ensures (end_there c.requires.0.checked c.args.rank c.requires.1)
 
 -- and so is its parent
-up : (c : tie.After-parent) → c.parent.result < length c.before.before.before.before.before.before.before.before.before.before.args.lengths.now
+up : (c : tie.After-parent-up) → c.parent-up.result < length c.args.lengths.now
 up c =
-    let start = c.before.before.before.before.before.before.before.before.before.before in
-    omega (arith, c.parent.ensures, parent_less start.args.s c.before.before.before.before.node_of.result (omega arith), here c.before.before.before.before)
+    omega (arith, c.parent-up.ensures, parent_less c.args.s c.node_of-node.result (omega arith), here (c.before.before.before.before))
 
 -- the first step looks for the closing byte in the node of the rank
-first_step : (c : tie.After-step-in) → let a = c.before.before.before.before.before.before.before.before.args in
-    StepIn a.bytes.now a.starts.now (node_of a.s a.rank) (closing_byte a.s a.rank) c.step_in.result
-first_step c = rw (c.before.before.node_of.ensures, c.before.closing-byte.ensures) at c.step_in.ensures
+first_step : (c : tie.After-step_in-first) → let a = c.args in
+    StepIn a.bytes.now a.starts.now (node_of a.s a.rank) (closing_byte a.s a.rank) c.step_in-first.result
+first_step c = rw (c.node_of-node.ensures, c.closing_byte-byte.ensures) at c.step_in-first.ensures
 
 -- the second for its digit in its parent
-second-step : (c : tie.After-step-in2) → let a = c.before.before.before.before.before.before.before.before.before.before.before.before.args in
-    StepUp a.s a.bytes.now a.starts.now c.before.before.before.before.step_in.result c.step-in2.result
+second-step : (c : tie.After-step_in-second) → let a = c.args in
+    StepUp a.s a.bytes.now a.starts.now c.step_in-first.result c.step_in-second.result
 second-step c =
-    let node = c.before.before.before.before.step_in.ensures.node_is in
-    record { goes_on = rw node (omega arith); step = rw node (rw (c.before.before.parent.ensures, c.before.digit.ensures) at c.step-in2.ensures) }
+    let node = c.step_in-first.ensures.node_is in
+    record { goes_on = rw node (omega arith); step = rw node (rw (c.parent-up.ensures, c.digit-digit.ensures) at c.step_in-second.ensures) }
 
 -- and the third for the digit of the parent
-third-step : (c : tie.After-step-in3) → let a = c.before.before.before.before.before.before.before.before.before.before.before.before.before.before.before.before.args in
-    StepUp a.s a.bytes.now a.starts.now c.before.before.before.before.step-in2.result c.step-in3.result
+third-step : (c : tie.After-step_in-third) → let a = c.args in
+    StepUp a.s a.bytes.now a.starts.now c.step_in-second.result c.step_in-third.result
 third-step c =
-    let node = c.before.before.before.before.step-in2.ensures.node_is in
-    record { goes_on = rw node (omega arith); step = rw node (rw (c.before.before.parent2.ensures, c.before.digit2.ensures) at c.step-in3.ensures) }
+    let node = c.step_in-second.ensures.node_is in
+    record { goes_on = rw node (omega arith); step = rw node (rw (c.parent-top.ensures, c.digit-lead.ensures) at c.step_in-third.ensures) }
 
 -- two levels above the node of a rank is the root
-top : (c : tie.After-parent2) → c.parent2.result ≡ 0
+top : (c : tie.After-parent-top) → c.parent-top.result ≡ 0
 top c =
-    let start = c.before.before.before.before.before.before.before.before.before.before.before.before.before.before in
-    let k = c.before.before.before.before.before.before.before.before.node_of.result in
-    c.parent2.ensures
-    ∙ ap (parent start.args.s) c.before.before.before.before.parent.ensures
-    ∙ two_up start.args.s start.requires.0.checked.closing k
-    (omega (arith, here c.before.before.before.before.before.before.before.before, checked_number start.requires.0.checked, nodes_most start.args.s start.requires.0.checked.closing start.args.shape.vocabulary start.requires.0.checked.limits.most_words))
-    (omega (arith, c.before.before.before.before.parent.ensures))
+    let k = c.node_of-node.result in
+    c.parent-top.ensures
+    ∙ ap (parent c.args.s) c.parent-up.ensures
+    ∙ two_up c.args.s c.requires.0.checked.closing k
+    (omega (arith, here (c.before.before.before.before.before.before.before.before), checked_number c.requires.0.checked, nodes_most c.args.s c.requires.0.checked.closing c.args.shape.vocabulary c.requires.0.checked.limits.most_words))
+    (omega (arith, c.parent-up.ensures))
 
-node-of-requires : tie.Need-node-of-requires
+node-of-requires : tie.Need-node_of-node-requires
 node-of-requires c κs = search rules
 
-closing-byte-requires : tie.Need-closing-byte-requires
+closing-byte-requires : tie.Need-closing_byte-byte-requires
 closing-byte-requires c κs = search rules
 
-step-in-requires : tie.Need-step-in-requires
-step-in-requires c κs = node_counted c.before.before.before.before.before.before.before.requires.0 c.before.node_of.result (here c.before)
+step-in-requires : tie.Need-step_in-first-requires
+step-in-requires c κs = node_counted c.requires.0 c.node_of-node.result (here (c.before))
 
-returns : tie.Need-returns
+returns : tie.Need-returns-then-node-eq0
 returns c =
-    let e : c.before.before.before.node_of.result ≡ 0 = omega arith in
+    let e : c.node_of-node.result ≡ 0 = omega arith in
     record {
       some = omega arith;
-      first = first_step c.before;
+      first = first_step (c.before);
       second = λ h. absurd (omega arith);
       third = λ h. absurd (omega arith);
-      ends_first = λ h. c.before.step_in.ensures.node_is ∙ e;
+      ends_first = λ h. c.step_in-first.ensures.node_is ∙ e;
       ends_second = λ h. absurd (omega arith);
       ends_third = λ h. absurd (omega arith);
     }
 
-parent-requires : tie.Need-parent-requires
+parent-requires : tie.Need-parent-up-requires
 parent-requires c κs = search rules
 
-digit-requires : tie.Need-digit-requires
+digit-requires : tie.Need-digit-digit-requires
 digit-requires c κs = search rules
 
-step-in-requires-2 : tie.Need-step-in-requires-2
-step-in-requires-2 c κs = node_counted c.before.before.before.before.before.before.before.before.before.before.before.requires.0 c.before.parent.result (up c.before)
+step-in-requires-2 : tie.Need-step_in-second-requires
+step-in-requires-2 c κs = node_counted c.requires.0 c.parent-up.result (up (c.before))
 
-returns-2 : tie.Need-returns-2
+returns-2 : tie.Need-returns-then-up-eq0
 returns-2 c =
-    let e : c.before.before.before.parent.result ≡ 0 = omega arith in
+    let e : c.parent-up.result ≡ 0 = omega arith in
     record {
       some = omega arith;
-      first = first_step c.before.before.before.before.before;
-      second = λ h. second-step c.before;
+      first = first_step (c.before.before.before.before.before);
+      second = λ h. second-step (c.before);
       third = λ h. absurd (omega arith);
       ends_first = λ h. absurd (omega arith);
-      ends_second = λ h. c.before.step-in2.ensures.node_is ∙ e;
+      ends_second = λ h. c.step_in-second.ensures.node_is ∙ e;
       ends_third = λ h. absurd (omega arith);
     }
 
-parent-requires-2 : tie.Need-parent-requires-2
-parent-requires-2 c κs = (c.before.before.before.before.before.before.before.before.before.before.before.before.before.requires.0.checked.closing, omega arith)
+parent-requires-2 : tie.Need-parent-top-requires
+parent-requires-2 c κs = (c.requires.0.checked.closing, omega arith)
 
-digit-requires-2 : tie.Need-digit-requires-2
-digit-requires-2 c κs = (c.before.before.before.before.before.before.before.before.before.before.before.before.before.before.requires.0.checked.closing, omega arith)
+digit-requires-2 : tie.Need-digit-lead-requires
+digit-requires-2 c κs = (c.requires.0.checked.closing, omega arith)
 
-step-in-requires-3 : tie.Need-step-in-requires-3
+step-in-requires-3 : tie.Need-step_in-third-requires
 step-in-requires-3 c κs =
-    let start = c.before.before.before.before.before.before.before.before.before.before.before.before.before.before.before in
-    node_counted start.requires.0 c.before.parent2.result (omega (arith, top c.before, checked_some start.requires.0.checked))
+    node_counted c.requires.0 c.parent-top.result (omega (arith, top (c.before), checked_some c.requires.0.checked))
 
-returns-3 : tie.Need-returns-3
+returns-3 : tie.Need-returns
 returns-3 c = record {
   some = omega arith;
-  first = first_step c.before.before.before.before.before.before.before.before;
-  second = λ h. second-step c.before.before.before.before;
+  first = first_step (c.before.before.before.before.before.before.before.before);
+  second = λ h. second-step (c.before.before.before.before);
   third = λ h. third-step c;
   ends_first = λ h. absurd (omega arith);
   ends_second = λ h. absurd (omega arith);
-  ends_third = λ h. c.step-in3.ensures.node_is ∙ top c.before.before;
+  ends_third = λ h. c.step_in-third.ensures.node_is ∙ top (c.before.before);
 }
 
-pub way-of-spec : {M : Type 1} → statement M
-way-of-spec =
+pub way_of_spec : {M : Type 1} → statement M
+way_of_spec =
     tie.close
     (tie.spec
     node-of-requires
