@@ -1,5 +1,4 @@
-//! Links the archive that `rt staticlib concordance` writes: from the folder that CONCORDANCE_LIB_DIR names, or from the repository's target
-//! folder.
+//! Links the archive that `tools/archive` writes: from the folder that CONCORDANCE_LIB_DIR names, or from the repository's target folder.
 use std::env;
 use std::path::PathBuf;
 
@@ -16,7 +15,7 @@ fn main() {
     println!("cargo:rerun-if-changed={}", archive.display());
     if !archive.is_file() {
         println!(
-            "cargo:warning={} is missing: run `rt staticlib concordance` in the repository, or set CONCORDANCE_LIB_DIR to the folder that has it",
+            "cargo:warning={} is missing: run `tools/archive` in the repository, or set CONCORDANCE_LIB_DIR to the folder that has it",
             archive.display()
         );
         std::process::exit(1);

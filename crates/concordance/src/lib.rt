@@ -1,8 +1,6 @@
-// The entries of the engine under their C names, for C, C++ and Rust to link. Each but the two of
-// a sheet is the entry of its crate, with the same contract; none has a `requires`.
-//
-// `include/concordance.h` declares them. A slice passes as a pointer and a length, and the structs
-// pass by value as C has them.
+// The entries of the engine under their C names. Each but the two of a sheet is the entry of its
+// crate, with the same contract; none has a `requires`. The static library `concordance_c` exports
+// each to C.
 #![tactic(auto)]
 
 ghost use Rattle.std.specs.Prelude.{◌≡◌, length};
@@ -33,12 +31,7 @@ use questions::Question;
 // Writes a text as a stream to the front of a slice, and answers the number of bytes. Refusals 1, 2,
 // 4 with the first place whose rank is not below the vocabulary's size, and 5 leave the slice as it
 // was.
-#[unsafe(no_mangle)]
-pub extern "C" fn concordance_write_stream(
-    vocabulary: usize,
-    text: &[u32],
-    stream: &mut [u8],
-) -> Answer
+pub fn concordance_write_stream(vocabulary: usize, text: &[u32], stream: &mut [u8]) -> Answer
     ensures { (result ≡ write_stream_answer 128 vocabulary text.now stream.old) × (stream.new ≡ write_stream_exit 128 vocabulary text.now stream.old) }
 {
     dense::write_stream(vocabulary, text, stream)
@@ -46,8 +39,7 @@ pub extern "C" fn concordance_write_stream(
 
 // Reads a stream as a text into the front of a slice, and answers the number of words. Refusals 2, 5
 // and 15 leave the slice as it was.
-#[unsafe(no_mangle)]
-pub extern "C" fn concordance_read_stream(stream: &[u8], text: &mut [u32]) -> Answer
+pub fn concordance_read_stream(stream: &[u8], text: &mut [u32]) -> Answer
     ensures { (result ≡ read_stream_answer 128 stream.now text.old) × (text.new ≡ read_stream_exit 128 stream.now text.old) }
 {
     dense::read_stream(stream, text)
@@ -56,8 +48,7 @@ pub extern "C" fn concordance_read_stream(stream: &[u8], text: &mut [u32]) -> An
 // Builds the index of a text in front of the four slices, and answers the number of node bytes.
 // Refusals 1, 2, 3, 4 with the first place whose rank is not below the vocabulary's size, and 5
 // leave the slices as they were.
-#[unsafe(no_mangle)]
-pub extern "C" fn concordance_build(
+pub fn concordance_build(
     shape: Shape,
     text: &[u32],
     lengths: &mut [u32],
@@ -74,8 +65,7 @@ pub extern "C" fn concordance_build(
 
 // Measures a text: the sizes of its index beside the answer 0. Refusals 1, 2, 3, and 4 with the first
 // place whose rank is not below the vocabulary's size, have four zeros beside them.
-#[unsafe(no_mangle)]
-pub extern "C" fn concordance_measure(shape: Shape, text: &[u32]) -> Measured
+pub fn concordance_measure(shape: Shape, text: &[u32]) -> Measured
     ensures { result ≡ measured_of 128 shape text.now }
 {
     measuring::measure(shape, text)
@@ -85,8 +75,7 @@ pub extern "C" fn concordance_measure(shape: Shape, text: &[u32]) -> Measured
 // and answers the number of node bytes. Refusals 1, 2, 3, 4 with the first place whose rank is not
 // below the vocabulary's size, 16 if the sizes are not those of the text, and 5 leave the slices as
 // they were.
-#[unsafe(no_mangle)]
-pub extern "C" fn concordance_build_sized(
+pub fn concordance_build_sized(
     shape: Shape,
     sizes: IndexSizes,
     text: &[u32],
@@ -104,8 +93,7 @@ pub extern "C" fn concordance_build_sized(
 
 // Checks an index: 0 is answered exactly if some text of the vocabulary has the four slices as its
 // index. Refusals 1, 3 and 6.
-#[unsafe(no_mangle)]
-pub extern "C" fn concordance_check(
+pub fn concordance_check(
     shape: Shape,
     lengths: &[u32],
     bytes: &[u8],
@@ -119,8 +107,7 @@ pub extern "C" fn concordance_check(
 
 // Asks a question of an index. Refusals 1, 3 and 6, then 7 to 11 as the kind needs; fields that the
 // kind does not use never matter.
-#[unsafe(no_mangle)]
-pub extern "C" fn concordance_ask(
+pub fn concordance_ask(
     shape: Shape,
     lengths: &[u32],
     bytes: &[u8],
@@ -137,8 +124,7 @@ pub extern "C" fn concordance_ask(
 // Asks a question of an index inside documents, whose starts it brings. Refusals 1, 3, 6, and 19 for
 // starts that break a rule, then 7 to 11 as the kind needs; fields that the kind does not use never
 // matter.
-#[unsafe(no_mangle)]
-pub extern "C" fn concordance_ask_in_documents(
+pub fn concordance_ask_in_documents(
     shape: Shape,
     lengths: &[u32],
     bytes: &[u8],
@@ -167,8 +153,7 @@ pub extern "C" fn concordance_ask_in_documents(
 // questions; their pairs, the refusal or 0 and the value, stand in order in front of the slice, and
 // the rest stays. Refusals 1, 3, 6, and 12 for a slice shorter than two elements a question, leave
 // the slice as it was; 7 to 11 go into the question's own pair, with the value 0.
-#[unsafe(no_mangle)]
-pub extern "C" fn concordance_answer_sheet(
+pub fn concordance_answer_sheet(
     shape: Shape,
     lengths: &[u32],
     bytes: &[u8],
@@ -199,8 +184,7 @@ pub extern "C" fn concordance_answer_sheet(
 // made once, and then each question is answered as `concordance_ask_in_documents` answers it.
 // Refusals 1, 3, 6, 19 for starts that break a rule, and 12 leave the slice as it was; else as
 // `concordance_answer_sheet`.
-#[unsafe(no_mangle)]
-pub extern "C" fn concordance_answer_sheet_in_documents(
+pub fn concordance_answer_sheet_in_documents(
     shape: Shape,
     lengths: &[u32],
     bytes: &[u8],
@@ -251,8 +235,7 @@ pub extern "C" fn concordance_answer_sheet_in_documents(
 
 // Fills a whole slice with the ranks from a place on, and answers its length; an empty slice is
 // filled for any place up to n. Refusals 1, 3, 6 and 11 leave it as it was.
-#[unsafe(no_mangle)]
-pub extern "C" fn concordance_passage(
+pub fn concordance_passage(
     shape: Shape,
     lengths: &[u32],
     bytes: &[u8],
@@ -267,8 +250,7 @@ pub extern "C" fn concordance_passage(
 }
 
 // A listing that has written nothing: next 0, not finished.
-#[unsafe(no_mangle)]
-pub extern "C" fn concordance_open() -> Listing
+pub fn concordance_open() -> Listing
     ensures { result ≡ opened }
 {
     Listing::open()
@@ -276,8 +258,7 @@ pub extern "C" fn concordance_open() -> Listing
 
 // The next page of the listing of a phrase, which is a part of the lent words. Refusals 1, 3, 6, 8,
 // 9, 11 and 12 hand back the state and leave the lines.
-#[unsafe(no_mangle)]
-pub extern "C" fn concordance_list(
+pub fn concordance_list(
     state: Listing,
     shape: Shape,
     lengths: &[u32],
@@ -307,8 +288,7 @@ pub extern "C" fn concordance_list(
 // The next page of the listing of a phrase, which is a part of the lent words, inside documents,
 // whose starts it brings. Refusals 1, 3, 6, 19, 8, 9, 11 and 12 hand back the state and leave the
 // lines.
-#[unsafe(no_mangle)]
-pub extern "C" fn concordance_list_in_documents(
+pub fn concordance_list_in_documents(
     state: Listing,
     shape: Shape,
     lengths: &[u32],
@@ -341,8 +321,7 @@ pub extern "C" fn concordance_list_in_documents(
 // front of a slice, and the rest stays. It answers the number of documents. Refusals 1, 3, 6, 19, 8,
 // also for the phrase of no words, 9, and 12 for a slice with less than one element a document leave
 // the slice as it was.
-#[unsafe(no_mangle)]
-pub extern "C" fn concordance_summary(
+pub fn concordance_summary(
     shape: Shape,
     lengths: &[u32],
     bytes: &[u8],
@@ -373,8 +352,7 @@ pub extern "C" fn concordance_summary(
 // Reads a plain text through a word list into the front of a slice: the rank of each word, folded by
 // the letter table. It answers the number of words. Refusals 1, 2, 5, 13, and 14 with the byte
 // offset of the first word that is not in the list, leave the slice as it was.
-#[unsafe(no_mangle)]
-pub extern "C" fn concordance_read_text(list: &[u8], text: &[u8], ranks: &mut [u32]) -> Answer
+pub fn concordance_read_text(list: &[u8], text: &[u8], ranks: &mut [u32]) -> Answer
     ensures { (result ≡ read_text_answer letters list.now text.now ranks.old) × (ranks.new ≡ read_text_exit letters list.now text.now ranks.old) }
 {
     plain_text::read_text(list, text, ranks)
@@ -383,8 +361,7 @@ pub extern "C" fn concordance_read_text(list: &[u8], text: &[u8], ranks: &mut [u
 // Finds a spelled word, folded by the letter table, in a word list: it answers its rank, and the number
 // of the list's words where the list lacks it, as it lacks an empty spelling and one with a
 // separator. Refusals 1 and 13.
-#[unsafe(no_mangle)]
-pub extern "C" fn concordance_find_word(list: &[u8], spelling: &[u8]) -> Answer
+pub fn concordance_find_word(list: &[u8], spelling: &[u8]) -> Answer
     ensures { result ≡ find_word_answer letters list.now spelling.now }
 {
     finding::find_word(list, spelling)
@@ -394,16 +371,14 @@ pub extern "C" fn concordance_find_word(list: &[u8], spelling: &[u8]) -> Answer
 // distinct words, most frequent first and equal ones by first appearance, to the front of one slice,
 // and the rank of each word of the text to the front of the other. It gives how many elements of
 // each it has written. Refusals 2, 17 and 5, in this order, leave both slices as they were.
-#[unsafe(no_mangle)]
-pub extern "C" fn concordance_make_list(text: &[u8], list: &mut [u8], ranks: &mut [u32]) -> ListMade
+pub fn concordance_make_list(text: &[u8], list: &mut [u8], ranks: &mut [u32]) -> ListMade
     ensures { (result ≡ list_made letters text.now list.old ranks.old) × (list.new ≡ make_list_exit letters text.now list.old ranks.old) × (ranks.new ≡ make_ranks_exit letters text.now list.old ranks.old) }
 {
     list_making::make_list(text, list, ranks)
 }
 
 // Checks a letter table: 0 is answered exactly if it keeps the rules. Refusal 18.
-#[unsafe(no_mangle)]
-pub extern "C" fn concordance_check_letters(table: &[u8]) -> Answer
+pub fn concordance_check_letters(table: &[u8]) -> Answer
     ensures { result ≡ table_answer table.now }
 {
     lexicon::check_table(table)
@@ -413,8 +388,7 @@ pub extern "C" fn concordance_check_letters(table: &[u8]) -> Answer
 // the lent table. It answers the number of words. Refusals 18, then 1, 2, 5, 13, and 14 with the
 // byte offset of the first word that is not in the list, all by the lent table, leave the slice as it
 // was.
-#[unsafe(no_mangle)]
-pub extern "C" fn concordance_read_text_with(
+pub fn concordance_read_text_with(
     table: &[u8],
     list: &[u8],
     text: &[u8],
@@ -428,8 +402,7 @@ pub extern "C" fn concordance_read_text_with(
 // Finds a spelled word, folded by the lent table, in a word list: it answers its rank, and the number
 // of the list's words where the list lacks it, as it lacks an empty spelling and one with a
 // separator. Refusals 18, then 1 and 13, by the lent table.
-#[unsafe(no_mangle)]
-pub extern "C" fn concordance_find_word_with(table: &[u8], list: &[u8], spelling: &[u8]) -> Answer
+pub fn concordance_find_word_with(table: &[u8], list: &[u8], spelling: &[u8]) -> Answer
     ensures { result ≡ find_word_with_answer table.now list.now spelling.now }
 {
     lent_tables::find_word_with(table, list, spelling)
@@ -438,8 +411,7 @@ pub extern "C" fn concordance_find_word_with(table: &[u8], list: &[u8], spelling
 // Makes a word list of a plain text, whose words are folded by the lent table: the list to the front
 // of one slice, and the rank of each word of the text to the front of the other. It gives how many
 // elements of each it has written. Refusals 18, then 2, 17 and 5, leave both slices as they were.
-#[unsafe(no_mangle)]
-pub extern "C" fn concordance_make_list_with(
+pub fn concordance_make_list_with(
     table: &[u8],
     text: &[u8],
     list: &mut [u8],
