@@ -14,53 +14,49 @@ use Rattle.anchors.proofs.Seconds.{phrase_second, pair_second}
 use Rattle.anchors.proofs.second_of.Statement.{statement}
 use Rattle.anchors.proofs.second_of.Tie as tie
 
-enum_told : tie.Need-enum-told
+enum_told : tie.Need-enum_told-1
 enum_told c = search rules
 
-rarest-beside-requires : tie.Need-rarest-beside-requires
+rarest-beside-requires : tie.Need-rarest_beside-number-requires
 rarest-beside-requires c κs = search rules
 
-least-requires : tie.Need-least-requires
+least-requires : tie.Need-least-low-requires
 least-requires c κs = search rules
 
-sub-t15 : tie.Need-overflow-sub-t15
+sub-t15 : tie.Need-overflow_sub-result
 sub-t15 c = search rules
 
-sub-t16 : tie.Need-overflow-sub-t16
+sub-t16 : tie.Need-overflow_sub-result-in-Phrase
 sub-t16 c = search rules
 
-enum-known-sought : tie.Need-enum-known-sought
+enum-known-sought : tie.Need-enum_known-sought
 enum-known-sought c = search rules
 
-text-length-requires : tie.Need-text-length-requires
-text-length-requires c κs = checked_some c.before.before.before.before.before.before.before.before.before.requires.0.ready.checked
+text-length-requires : tie.Need-text_length-requires
+text-length-requires c κs = checked_some c.requires.0.ready.checked
 
-second-at-requires : tie.Need-second-at-requires
+second-at-requires : tie.Need-second_at-requires
 second-at-requires c κs =
-    let st = c.before.before.before.before.before.before.before.before.before.before in
-    omega (arith, c.text-length.ensures.1 _ _ _ _ _ st.requires.0.ready.checked, text_most st.requires.0.ready.checked)
+    omega (arith, c.text_length.ensures.1 _ _ _ _ _ c.requires.0.ready.checked, text_most c.requires.0.ready.checked)
 
-returns : tie.Need-returns
+returns : tie.Need-returns-in-Phrase
 returns c =
-    let st = c.before.before.before.before.before.before.before.before.before.before in
-    let t = text_in st.args.s (arrays st.args.lengths.now st.args.bytes.now st.args.superblocks.now st.args.blocks.now) in
-    phrase_second t st.args.words.now st.args.sought st.args.anchor c.before.rarest-beside.result c.least.result
-    c.before.before.enum_told.given.1 st.requires.3 c.before.rarest-beside.ensures st.requires.0.most c.least.ensures
+    let t = text_in c.args.s (arrays c.args.lengths.now c.args.bytes.now c.args.superblocks.now c.args.blocks.now) in
+    phrase_second t c.args.words.now c.args.sought c.args.anchor c.rarest_beside-number.result c.least-low.result
+    c.in-Phrase.is c.requires.3 c.rarest_beside-number.ensures c.requires.0.most c.least-low.ensures
 
-returns-2 : tie.Need-returns-2
+returns-2 : tie.Need-returns-in-Pair
 returns-2 c =
-    let st = c.before.before.before.before.before.before.before.before.before.before.before in
-    let known = c.before.before.before.sought.given in
-    let told = c.before.before.known-told.given in
-    let n = c.before.text-length.result in
-    let t = text_in st.args.s (arrays st.args.lengths.now st.args.bytes.now st.args.superblocks.now st.args.blocks.now) in
-    let e = c.second_at.ensures ∙ ap (λ (z : ℤ). second_at z n) (to_z-of_z {w = w32} {z = known.0.0} (record { sfits = told.0.1 })) in
-    subst (λ (r : Second). SecondOf t st.args.words.now st.args.sought st.args.anchor r) (sym e)
-    (pair_second t st.args.words.now st.args.sought known.0.0 st.args.anchor n known.1 st.requires.1 st.requires.2
-    (omega (arith, c.before.text-length.ensures.1 _ _ _ _ _ st.requires.0.ready.checked, text_most st.requires.0.ready.checked)))
+    let told = c.known_told-1.given in
+    let n = c.text_length.result in
+    let t = text_in c.args.s (arrays c.args.lengths.now c.args.bytes.now c.args.superblocks.now c.args.blocks.now) in
+    let e = c.second_at.ensures ∙ ap (λ (z : ℤ). second_at z n) (to_z-of_z {w = w32} {z = c.in-Pair.offset} (record { sfits = told.0.1 })) in
+    subst (λ (r : Second). SecondOf t c.args.words.now c.args.sought c.args.anchor r) (sym e)
+    (pair_second t c.args.words.now c.args.sought c.in-Pair.offset c.args.anchor n c.in-Pair.is c.requires.1 c.requires.2
+    (omega (arith, c.text_length.ensures.1 _ _ _ _ _ c.requires.0.ready.checked, text_most c.requires.0.ready.checked)))
 
-pub second-of-spec : {M : Type 1} → statement M
-second-of-spec =
+pub second_of_spec : {M : Type 1} → statement M
+second_of_spec =
     tie.close
     (tie.spec
     enum_told

@@ -21,7 +21,7 @@ four c = arrays c.args.lengths.now c.args.bytes.now c.args.superblocks.now c.arg
 -- past the first test the slices have passed the check
 module _ (c : tie.Else-checked-ne0) where
   abbrev start : tie.Start
-  start = c
+  start = c.before.before.before.before.before.before.before.before
 
   none : (check_answer start.args.s start.args.shape (four start)).refusal ≡ 0
   none = ap (λ (r : Answer). r.refusal) (sym c.check_of-checked.ensures) ∙ c.if-checked-ne0.false
@@ -30,9 +30,9 @@ module _ (c : tie.Else-checked-ne0) where
   checked = accepted_checked start.args.s start.requires start.args.shape (four start) none
 
 -- the rules are those of starts in their text
-rules : (c : tie.After-are_starts) → let st = start (c.before.before) in
+rules_are : (c : tie.After-are_starts) → let st = start (c.before.before) in
     c.are_starts.result ≡ are_starts (length (text_in st.args.s (four st))) st.args.documents.now
-rules c =
+rules_are c =
     let st = start (c.before.before) in
     c.are_starts.ensures ∙ ap (λ n. are_starts n st.args.documents.now) (c.text_length.ensures.1 _ _ _ _ _ (checked (c.before.before)))
 
@@ -56,14 +56,14 @@ refused-requires c κs = search rules
 returns-2 : tie.Need-returns-then-not-are_starts
 returns-2 c =
     let st = start (c.before.before.before.before) in
-    c.refused.ensures ∙ sym (check_in_starts st.args.s st.args.shape (four st) st.args.documents.now (none (c.before.before.before.before)) (sym (rules (c.before.before)) ∙ c.if-not-are_starts.true))
+    c.refused.ensures ∙ sym (check_in_starts st.args.s st.args.shape (four st) st.args.documents.now (none (c.before.before.before.before)) (sym (rules_are (c.before.before)) ∙ c.if-not-are_starts.true))
 
 returns-3 : tie.Need-returns
 returns-3 c =
     let st = start (c.before.before.before) in
     c.check_of-checked.ensures
     ∙ check_passed st.args.s st.args.shape (four st) (none (c.before.before.before))
-    ∙ sym (check_in_passed st.args.s st.args.shape (four st) st.args.documents.now (check_passed st.args.s st.args.shape (four st) (none (c.before.before.before))) (sym (rules (c.before)) ∙ not-false c.are_starts.result c.if-not-are_starts.fals
+    ∙ sym (check_in_passed st.args.s st.args.shape (four st) st.args.documents.now (check_passed st.args.s st.args.shape (four st) (none (c.before.before.before))) (sym (rules_are (c.before)) ∙ c.if-not-are_starts.false))
 
 pub check_in_documents_spec : {M : Type 1} → statement M
 check_in_documents_spec =

@@ -43,7 +43,7 @@ module _ (table list : List ℕ) (at rank : ℕ) (b : WordBegins table list at) 
 -- the same at a place of the loop
 module _ (c : tie.In-loop-rank invariant-loop decreases-loop) where
   abbrev start : tie.Start invariant-loop decreases-loop
-  start = c
+  start = c.before.before.before.before.before.before
 
   inside : c.loop-rank.rank < length (spellings start.args.table.now start.args.list.now)
   inside = omega (arith, c.loop-rank-test.true, start.requires.1)

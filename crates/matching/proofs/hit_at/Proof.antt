@@ -33,23 +33,20 @@ enum-known-sought c = search rules
 
 pair-at-requires : tie.Need-pair_at-requires
 pair-at-requires c κs =
-    let known = c.sought-1.given in
-    (c.requires.0, pair-words c.args.words.now c.args.sought known.0.0 known.1 c.requires.1, c.requires.2, c.requires.3)
+    (c.requires.0, pair-words c.args.words.now c.args.sought c.in-Pair.offset c.in-Pair.is c.requires.1, c.requires.2, c.requires.3)
 
 returns : tie.Need-returns-in-Phrase
 returns c =
     let t = text_in c.args.s (arrays c.args.lengths.now c.args.bytes.now c.args.superblocks.now c.args.blocks.now) in
-    c.stands_at.ensures ∙ ap (λ (x : Sought). hit_in c.args.documents.now t c.args.words.now x c.args.place.0) (sym c.enum_told-1.given.1)
+    c.stands_at.ensures ∙ ap (λ (x : Sought). hit_in c.args.documents.now t c.args.words.now x c.args.place.0) (sym c.in-Phrase.is)
 
 returns-2 : tie.Need-returns-in-Pair
 returns-2 c =
-    let known = c.sought-1.given in
-    let told = c.known_told-1.given in
     let t = text_in c.args.s (arrays c.args.lengths.now c.args.bytes.now c.args.superblocks.now c.args.blocks.now) in
     let ws = c.args.words.now in
     c.pair_at.ensures
-    ∙ ap (λ (z : ℤ). neighbour_in c.args.documents.now t (get_or ws 0 0) (get_or ws 1 0) z c.args.place.0) (to_z-of_z {w = w32} {z = known.0.0} (record { sfits = told.0.1 }))
-    ∙ sym (ap (λ (x : Sought). hit_in c.args.documents.now t ws x c.args.place.0) known.1)
+    ∙ ap (λ (z : ℤ). neighbour_in c.args.documents.now t (get_or ws 0 0) (get_or ws 1 0) z c.args.place.0) (to_z-of_z {w = w32} {z = c.in-Pair.offset} (search rules))
+    ∙ sym (ap (λ (x : Sought). hit_in c.args.documents.now t ws x c.args.place.0) c.in-Pair.is)
 
 pub hit_at_spec : {M : Type 1} → statement M
 hit_at_spec =

@@ -58,21 +58,20 @@ cast-neighbour-at : tie.Need-overflow_cast-words
 cast-neighbour-at c = omega (arith, c.shared_slice_known-11-1.given 1)
 
 neighbour-at-requires : tie.Need-neighbour_at-requires
-neighbour-at-requires c κs =
-    (
-      c.requires.0.searchable.ready,
-      c.requires.2,
-      ap (λ (x : List ℕ). get_or x 1 0) c.requires.0.firsts_are ∙ first_byte_at c.args.s c.args.words.now 1 (omega (arith, c.requires.1)),
-      c.requires.3,
-    )
+neighbour-at-requires c κs = (
+  c.requires.0.searchable.ready,
+  c.requires.2,
+  ap (λ (x : List ℕ). get_or x 1 0) c.requires.0.firsts_are ∙ first_byte_at c.args.s c.args.words.now 1 (omega (arith, c.requires.1)),
+  c.requires.3,
+)
 
 returns-2 : tie.Need-returns
 returns-2 c =
     let t = text_in c.args.s (arrays c.args.lengths.now c.args.bytes.now c.args.superblocks.now c.args.blocks.now) in
     let ws = c.args.words.now in
     c.neighbour_at.ensures
-    ∙ ap (λ (z : ℤ). same_document c.args.documents.now c.args.place.0 (nat_abs (pos c.args.place.0 +ℤ z)) && stands_at t (get_or ws 1 0) (pos c.args.place.0 +ℤ z)) (to_z-of_z c.fits.offset)
-    ∙ decides c.args.documents.now t (get_or ws 0 0) (get_or ws 1 0) c.args.offset c.args.place.0 c.requires.2 (eqb-true _ _ (sym c.agrees_at.ensures ∙ not-false c.agrees_at.res
+    ∙ ap (λ (z : ℤ). same_document c.args.documents.now c.args.place.0 (nat_abs (pos c.args.place.0 +ℤ z)) && stands_at t (get_or ws 1 0) (pos c.args.place.0 +ℤ z)) (to_z-of_z c.ranges.offset)
+    ∙ decides c.args.documents.now t (get_or ws 0 0) (get_or ws 1 0) c.args.offset c.args.place.0 c.requires.2 (eqb-true _ _ (sym c.agrees_at.ensures ∙ c.if-not-agrees_at.false))
 
 pub pair_at_spec : {M : Type 1} → statement M
 pair_at_spec =

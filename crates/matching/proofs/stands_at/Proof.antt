@@ -24,10 +24,7 @@ text-length-requires c κs = checked_some c.requires.0.searchable.ready.checked
 abbrev text : tie.Start → List ℕ
 text st = text_in st.args.s (arrays st.args.lengths.now st.args.bytes.now st.args.superblocks.now st.args.blocks.now)
 
-abbrev start : tie.After-text_length-n → tie.Start
-start c = c
-
-size : (c : tie.After-text_length-n) → c.text_length-n.result ≡ length (text (start c))
+size : (c : tie.After-text_length-n) → c.text_length-n.result ≡ length (text (c.before.before.before.before.before.before.before.before.before))
 size c = c.text_length-n.ensures.1 _ _ _ _ _ c.requires.0.searchable.ready.checked
 
 add-if1 : tie.Need-overflow_add-place
@@ -79,7 +76,7 @@ returns-4 : tie.Need-returns
 returns-4 c =
     c.words_stand-same.ensures
     ∙ sym (together_in c.args.documents.now (text (c.before.before.before.before.before.before.before.before.before.before.before.before.before.before.before.before.before)) c.args.words.now c.args.place.0
-    (sym c.in_one_document-together.ensures ∙ not-false c.be
+    (sym c.in_one_document-together.ensures ∙ c.if-not-together.false))
 
 pub stands_at_spec : {M : Type 1} → statement M
 stands_at_spec =
