@@ -39,33 +39,34 @@ mod lists;
 mod shown;
 mod state;
 
-use libc::STDIN_FILENO;
 use state::State;
+use std::io;
 
 // Runs the case of a line.
-fn run_line(state: State, line: &[u8]) -> State {
+fn run_line(rt: &impl Print, state: State, line: &[u8]) -> io::Result<State> {
     let numbers = given::numbers_of(line);
-    printing::words(line);
-    shown::show(state, line, numbers);
-    lists::show(line, numbers);
-    let next = state.changed(line, numbers);
-    printing::words(b"\n");
-    next
+    printing::words(rt, line)?;
+    shown::show(rt, state, line, numbers)?;
+    lists::show(rt, line, numbers)?;
+    let next = state.changed(rt, line, numbers)?;
+    printing::words(rt, b"\n")?;
+    Ok(next)
 }
 
 // Runs the cases of all lines, each over the state that the one before it left.
-fn run(input: &[u8]) {
+fn run(rt: &impl Print, input: &[u8]) -> io::Result<()> {
     let mut state = State::first();
     let mut at: usize = 0;
     while at < input.len() {
         let end = given::line_end(input, at);
-        state = run_line(state, &input[at..end]);
+        state = run_line(rt, state, &input[at..end])?;
         at = end + 1;
     }
+    Ok(())
 }
 
-fn main() {
+fn main(rt: HostRuntime) -> io::Result<()> {
     let mut input = [0u8; 65536];
-    let size = io::read_full(STDIN_FILENO, &mut input);
-    run(&input[..size]);
+    let size = reading::read_full(&mut rt.reader(), &mut input)?;
+    run(&rt, &input[..size])
 }

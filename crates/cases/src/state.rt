@@ -3,6 +3,7 @@
 use given::Numbers;
 use listing::{Listing, Page};
 use small_indexes::{SmallIndex, shape_of};
+use std::io;
 
 // The index that calls are lent, the lent words, the document starts and whether calls bring them,
 // the state of the listing, and the word list.
@@ -20,11 +21,11 @@ pub struct State {
 }
 
 // Prints yes or no.
-fn yes_or_no(yes: bool) {
+fn yes_or_no(rt: &impl Print, yes: bool) -> io::Result<()> {
     if yes {
-        printing::words(b"yes");
+        printing::words(rt, b"yes")
     } else {
-        printing::words(b"no");
+        printing::words(rt, b"no")
     }
 }
 
@@ -48,24 +49,25 @@ fn page(
 
 // Turns a page into a slice, and prints what the call returns and leaves.
 fn turn(
+    rt: &impl Print,
     state: State,
     documents: &[u32],
     words: &[u32],
     numbers: Numbers,
     lines: &mut [u32],
-) -> Listing {
+) -> io::Result<Listing> {
     let page = page(state, documents, words, numbers, lines);
-    printing::words(b": ");
-    printing::answer(page.answer);
-    printing::words(b", more ");
-    yes_or_no(page.more);
-    printing::words(b", next ");
-    printing::number(page.listing.next);
-    printing::words(b", finished ");
-    yes_or_no(page.listing.finished);
-    printing::words(b":");
-    printing::ranks(lines);
-    page.listing
+    printing::words(rt, b": ")?;
+    printing::answer(rt, page.answer)?;
+    printing::words(rt, b", more ")?;
+    yes_or_no(rt, page.more)?;
+    printing::words(rt, b", next ")?;
+    printing::number(rt, page.listing.next)?;
+    printing::words(rt, b", finished ")?;
+    yes_or_no(rt, page.listing.finished)?;
+    printing::words(rt, b":")?;
+    printing::ranks(rt, lines)?;
+    Ok(page.listing)
 }
 
 // An index with a node length changed.
@@ -118,15 +120,15 @@ impl State {
     }
 
     // Builds the index of a text, and prints the answer and the node bytes.
-    fn built(mut self, numbers: Numbers) -> State {
+    fn built(mut self, rt: &impl Print, numbers: Numbers) -> io::Result<State> {
         let shape = shape_of(numbers.values[0], numbers.values[1], numbers.values[2]);
         let sizes = self.small.sizes;
         let text = given::ranks_of(numbers, 3);
         let small = SmallIndex::built(shape, small_indexes::front(&text.values, text.count), sizes);
         let bytes = small.bytes;
-        printing::answered_with_bytes(small.answer, &bytes);
+        printing::answered_with_bytes(rt, small.answer, &bytes)?;
         self.small = small;
-        self
+        Ok(self)
     }
 
     // Lends other parts of the arrays.
@@ -205,16 +207,16 @@ impl State {
     }
 
     // Turns a page of so many lines, at most 20.
-    fn paged(mut self, numbers: Numbers) -> State {
+    fn paged(mut self, rt: &impl Print, numbers: Numbers) -> io::Result<State> {
         let words = self.words;
         let documents = self.documents;
         let mut lines = [9u32; 20];
         let count = base::least(numbers.values[2], 20);
         let lent = small_indexes::front(&words, self.count);
         let starts = small_indexes::front(&documents, self.starts);
-        let listing = turn(self, starts, lent, numbers, &mut lines[..count]);
+        let listing = turn(rt, self, starts, lent, numbers, &mut lines[..count])?;
         self.listing = listing;
-        self
+        Ok(self)
     }
 
     // Takes another word list.
@@ -227,23 +229,23 @@ impl State {
     }
 
     // The state after a line.
-    pub fn changed(self, line: &[u8], numbers: Numbers) -> State {
+    pub fn changed(self, rt: &impl Print, line: &[u8], numbers: Numbers) -> io::Result<State> {
         if line.len() == 0 {
-            return self;
+            return Ok(self);
         }
         let first = line[0];
         match first {
-            b'b' => self.built(numbers),
-            b's' => self.sized(numbers),
-            b'v' => self.shaped(numbers),
-            b'm' => self.modified(numbers),
-            b'w' => self.lent(numbers),
-            b'o' => self.opened(numbers),
-            b'p' => self.paged(numbers),
-            b'l' => self.listed(line),
-            b'g' => self.grouped(numbers),
-            b'j' => self.joined(),
-            _ => self,
+            b'b' => self.built(rt, numbers),
+            b's' => Ok(self.sized(numbers)),
+            b'v' => Ok(self.shaped(numbers)),
+            b'm' => Ok(self.modified(numbers)),
+            b'w' => Ok(self.lent(numbers)),
+            b'o' => Ok(self.opened(numbers)),
+            b'p' => self.paged(rt, numbers),
+            b'l' => Ok(self.listed(line)),
+            b'g' => Ok(self.grouped(numbers)),
+            b'j' => Ok(self.joined()),
+            _ => Ok(self),
         }
     }
 }

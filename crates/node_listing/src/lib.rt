@@ -4,7 +4,6 @@
 // no entries.
 #![tactic(auto)]
 
-
 ghost use Rattle.std.specs.Prelude.{◌≡◌, ◌≤◌, length};
 ghost use Rattle.formatting.specs.Writing.{Wrote};
 ghost use Rattle.node_listing.specs.Listing.{vocabulary_of, max_stream_words, max_stream_vocabulary, index_listing, text_listing, listing};

@@ -2,8 +2,9 @@
 // of the longest listing its first line, its length, its Adler-32 checksum and its end are printed.
 #![tactic(auto)]
 
-
 ghost use Rattle.std.specs.Prelude.{◌≤◌, length};
+
+use std::io;
 
 // The remainder by which an Adler-32 checksum is taken.
 const ADLER: u32 = 65521;
@@ -36,50 +37,51 @@ fn first_line(bytes: &[u8]) -> usize
 }
 
 // Prints the first line of a listing, its length, its checksum and its last 40 bytes.
-fn print_ends(listing: &[u8]) {
+fn print_ends(rt: &impl Print, listing: &[u8]) -> io::Result<()> {
     let line = first_line(listing);
-    printing::words(&listing[..line]);
-    printing::words(b"length ");
-    printing::number(listing.len());
-    printing::words(b" checksum ");
-    printing::number(checksum(listing) as usize);
-    printing::words(b", its end:\n");
+    printing::words(rt, &listing[..line])?;
+    printing::words(rt, b"length ")?;
+    printing::number(rt, listing.len())?;
+    printing::words(rt, b" checksum ")?;
+    printing::number(rt, checksum(listing) as usize)?;
+    printing::words(rt, b", its end:\n")?;
     if 40 <= listing.len() {
         let end = listing.len() - 40;
-        printing::words(&listing[end..]);
+        printing::words(rt, &listing[end..])?;
     }
+    Ok(())
 }
 
 // Prints a listing: whole, or its ends.
-fn print_as(listing: &[u8], whole: bool) {
+fn print_as(rt: &impl Print, listing: &[u8], whole: bool) -> io::Result<()> {
     if whole {
-        printing::words(listing);
+        printing::words(rt, listing)
     } else {
-        print_ends(listing);
+        print_ends(rt, listing)
     }
 }
 
 // Prints the listing of a stream under a name: whole, or its ends.
-fn show_as(name: &[u8], stream: &[u8], whole: bool) {
+fn show_as(rt: &impl Print, name: &[u8], stream: &[u8], whole: bool) -> io::Result<()> {
     let mut output = [0u8; node_listing::MAX_LISTING];
     let answer = node_listing::write_listing(stream, &mut output);
     let count = answer.value;
-    printing::words(name);
-    printing::words(b"\n");
-    print_as(&output[..count], whole);
+    printing::words(rt, name)?;
+    printing::words(rt, b"\n")?;
+    print_as(rt, &output[..count], whole)
 }
 
 // Prints the whole listing of a stream under a name.
-fn show(name: &[u8], stream: &[u8]) {
-    show_as(name, stream, true);
+fn show(rt: &impl Print, name: &[u8], stream: &[u8]) -> io::Result<()> {
+    show_as(rt, name, stream, true)
 }
 
 // Prints what is answered for a lent slice, and the slice, whose elements were all 7.
-fn lend(name: &[u8], stream: &[u8], output: &mut [u8]) {
+fn lend(rt: &impl Print, name: &[u8], stream: &[u8], output: &mut [u8]) -> io::Result<()> {
     let answer = node_listing::write_listing(stream, output);
-    printing::words(name);
-    printing::answered_with_bytes(answer, output);
-    printing::words(b"\n");
+    printing::words(rt, name)?;
+    printing::answered_with_bytes(rt, answer, output)?;
+    printing::words(rt, b"\n")
 }
 
 // Fills a slice with words of one byte: ranks 0 to 127 over and over.
@@ -115,33 +117,33 @@ fn fill_values(stream: &mut [u8]) {
 }
 
 // Streams of few words, and every byte value.
-fn short_cases() {
-    show(b"the sample", &[128, 0, 128, 128, 0, 129, 0, 128]);
-    show(b"no byte", &[]);
-    show(b"one word", &[128]);
-    show(b"rank 127", &[255]);
-    show(b"rank 128", &[0, 128]);
-    show(b"rank 255", &[0, 255]);
-    show(b"rank 256", &[1, 128]);
-    show(b"rank 16511, V 16512", &[127, 255]);
-    show(b"rank 16512, V 16513", &[0, 0, 128]);
-    show(b"rank 2113663", &[127, 127, 255]);
+fn short_cases(rt: &impl Print) -> io::Result<()> {
+    show(rt, b"the sample", &[128, 0, 128, 128, 0, 129, 0, 128])?;
+    show(rt, b"no byte", &[])?;
+    show(rt, b"one word", &[128])?;
+    show(rt, b"rank 127", &[255])?;
+    show(rt, b"rank 128", &[0, 128])?;
+    show(rt, b"rank 255", &[0, 255])?;
+    show(rt, b"rank 256", &[1, 128])?;
+    show(rt, b"rank 16511, V 16512", &[127, 255])?;
+    show(rt, b"rank 16512, V 16513", &[0, 0, 128])?;
+    show(rt, b"rank 2113663", &[127, 127, 255])?;
     let mut values = [0u8; 384];
     fill_values(&mut values);
-    show(b"every byte value", &values);
+    show(rt, b"every byte value", &values)
 }
 
 // Broken streams.
-fn broken_cases() {
-    show(b"ends inside a codeword, after one byte", &[128, 0]);
-    show(b"ends inside a codeword, after two bytes", &[128, 0, 0]);
-    show(b"a codeword of four bytes", &[0, 0, 0, 128]);
-    show(b"rank 16512, then inside a codeword", &[0, 0, 128, 0]);
-    show(b"8192 bytes, none of which closes a word", &[0; 8192]);
+fn broken_cases(rt: &impl Print) -> io::Result<()> {
+    show(rt, b"ends inside a codeword, after one byte", &[128, 0])?;
+    show(rt, b"ends inside a codeword, after two bytes", &[128, 0, 0])?;
+    show(rt, b"a codeword of four bytes", &[0, 0, 0, 128])?;
+    show(rt, b"rank 16512, then inside a codeword", &[0, 0, 128, 0])?;
+    show(rt, b"8192 bytes, none of which closes a word", &[0; 8192])
 }
 
 // Streams of 4,096 words and one more, of one byte each.
-fn word_cases() {
+fn word_cases(rt: &impl Print) -> io::Result<()> {
     let mut most = [0u8; 4096];
     let mut more = [0u8; 4097];
     let mut inside = [0u8; 4098];
@@ -149,37 +151,37 @@ fn word_cases() {
     fill_ones(&mut more);
     fill_ones(&mut inside);
     inside[4097] = 0;
-    show(b"4096 words of one byte", &most);
-    show(b"4097 words of one byte", &more);
-    show(b"4097 words, then inside a codeword", &inside);
+    show(rt, b"4096 words of one byte", &most)?;
+    show(rt, b"4097 words of one byte", &more)?;
+    show(rt, b"4097 words, then inside a codeword", &inside)
 }
 
 // Streams of 8,192 bytes and one more.
-fn byte_cases() {
+fn byte_cases(rt: &impl Print) -> io::Result<()> {
     let mut most = [0u8; 8192];
     let mut more = [0u8; 8193];
     fill_twos(&mut most);
     fill_twos(&mut more);
-    show_as(b"4096 words of two bytes", &most, false);
-    show(b"8193 bytes, broken", &more);
+    show_as(rt, b"4096 words of two bytes", &most, false)?;
+    show(rt, b"8193 bytes, broken", &more)?;
     more[8192] = 128;
-    show(b"8193 bytes", &more);
+    show(rt, b"8193 bytes", &more)
 }
 
 // Slices one byte longer than the listing, as long, and one byte shorter.
-fn slice_cases() {
+fn slice_cases(rt: &impl Print) -> io::Result<()> {
     let mut longer = [7u8; 12];
     let mut equal = [7u8; 11];
     let mut shorter = [7u8; 10];
-    lend(b"a slice one byte longer", &[0], &mut longer);
-    lend(b"a slice as long", &[0], &mut equal);
-    lend(b"a slice one byte short", &[0], &mut shorter);
+    lend(rt, b"a slice one byte longer", &[0], &mut longer)?;
+    lend(rt, b"a slice as long", &[0], &mut equal)?;
+    lend(rt, b"a slice one byte short", &[0], &mut shorter)
 }
 
-fn main() {
-    short_cases();
-    broken_cases();
-    word_cases();
-    byte_cases();
-    slice_cases();
+fn main(rt: HostRuntime) -> io::Result<()> {
+    short_cases(&rt)?;
+    broken_cases(&rt)?;
+    word_cases(&rt)?;
+    byte_cases(&rt)?;
+    slice_cases(&rt)
 }

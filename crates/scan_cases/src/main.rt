@@ -13,7 +13,7 @@
 
 use block_scan::Where;
 use given::Numbers;
-use libc::STDIN_FILENO;
+use std::io;
 
 // The most bytes of a block.
 const MOST_BYTES: usize = 2048;
@@ -116,57 +116,64 @@ fn count_of(block: &[u8], byte: u8) -> usize {
 }
 
 // Scans a block, and prints the position, or none, and the number of bytes read.
-fn scan(block: &[u8], byte: u8, j: usize) {
+fn scan(rt: &impl Print, block: &[u8], byte: u8, j: usize) -> io::Result<()> {
     let scanned = block_scan::scan(block, byte, j);
     let stands = scanned.stands;
     match stands {
         Where::At(at) => {
-            printing::words(b": at ");
-            printing::number(at);
+            printing::words(rt, b": at ")?;
+            printing::number(rt, at)?;
         }
-        Where::Nowhere => printing::words(b": none"),
+        Where::Nowhere => printing::words(rt, b": none")?,
     }
-    printing::words(b", ");
-    printing::number(scanned.read);
-    printing::words(b" read");
+    printing::words(rt, b", ")?;
+    printing::number(rt, scanned.read)?;
+    printing::words(rt, b" read")
 }
 
 // Scans a block, and prints the position, or a dash, and the number of bytes read, shortly.
-fn scan_shortly(block: &[u8], byte: u8, j: usize) {
+fn scan_shortly(rt: &impl Print, block: &[u8], byte: u8, j: usize) -> io::Result<()> {
     let scanned = block_scan::scan(block, byte, j);
     let stands = scanned.stands;
-    printing::words(b" ");
+    printing::words(rt, b" ")?;
     match stands {
-        Where::At(at) => printing::number(at),
-        Where::Nowhere => printing::words(b"-"),
+        Where::At(at) => printing::number(rt, at)?,
+        Where::Nowhere => printing::words(rt, b"-")?,
     }
-    printing::words(b"/");
-    printing::number(scanned.read);
+    printing::words(rt, b"/")?;
+    printing::number(rt, scanned.read)
 }
 
 // Scans a block for each occurrence of a byte, and for two more.
-fn each(block: &[u8], byte: u8) {
-    printing::words(b":");
+fn each(rt: &impl Print, block: &[u8], byte: u8) -> io::Result<()> {
+    printing::words(rt, b":")?;
     let end = base::least(count_of(block, byte), MOST_BYTES) + 2;
     let mut j: usize = 0;
     while j < end {
-        scan_shortly(block, byte, j);
+        scan_shortly(rt, block, byte, j)?;
         j += 1;
     }
+    Ok(())
 }
 
 // Scans the block in front of some bytes as a line says, if it says so, and prints what came of it.
-fn show(bytes: &[u8], size: usize, line: &[u8], numbers: Numbers) {
+fn show(
+    rt: &impl Print,
+    bytes: &[u8],
+    size: usize,
+    line: &[u8],
+    numbers: Numbers,
+) -> io::Result<()> {
     if line.len() == 0 {
-        return;
+        return Ok(());
     }
     let end = base::least(size, bytes.len());
     let block = &bytes[..end];
     let byte = (numbers.values[0] % 256) as u8;
     match line[0] {
-        b's' => scan(block, byte, numbers.values[1]),
-        b'e' => each(block, byte),
-        _ => {}
+        b's' => scan(rt, block, byte, numbers.values[1]),
+        b'e' => each(rt, block, byte),
+        _ => Ok(()),
     }
 }
 
@@ -183,29 +190,30 @@ fn changed(block: Block, line: &[u8], numbers: Numbers) -> Block {
 }
 
 // Runs the case of a line.
-fn run_line(block: Block, line: &[u8]) -> Block {
+fn run_line(rt: &impl Print, block: Block, line: &[u8]) -> io::Result<Block> {
     let numbers = given::numbers_of(line);
-    printing::words(line);
+    printing::words(rt, line)?;
     let bytes = block.bytes;
-    show(&bytes, block.size, line, numbers);
+    show(rt, &bytes, block.size, line, numbers)?;
     let next = changed(block, line, numbers);
-    printing::words(b"\n");
-    next
+    printing::words(rt, b"\n")?;
+    Ok(next)
 }
 
 // Runs the cases of all lines, each over the block that the one before it left.
-fn run(input: &[u8]) {
+fn run(rt: &impl Print, input: &[u8]) -> io::Result<()> {
     let mut block = Block::empty();
     let mut at: usize = 0;
     while at < input.len() {
         let end = given::line_end(input, at);
-        block = run_line(block, &input[at..end]);
+        block = run_line(rt, block, &input[at..end])?;
         at = end + 1;
     }
+    Ok(())
 }
 
-fn main() {
+fn main(rt: HostRuntime) -> io::Result<()> {
     let mut input = [0u8; 32768];
-    let size = io::read_full(STDIN_FILENO, &mut input);
-    run(&input[..size]);
+    let size = reading::read_full(&mut rt.reader(), &mut input)?;
+    run(&rt, &input[..size])
 }

@@ -2,25 +2,27 @@
 // number of its words and their ranks, or the refusal.
 #![tactic(auto)]
 
-use libc::STDIN_FILENO;
+use std::io;
 
-fn main() {
+fn main(rt: HostRuntime) -> io::Result<()> {
     let mut stream = [0u8; 8192];
     let mut text = [0u32; 8192];
-    let n = io::read_full(STDIN_FILENO, &mut stream);
+    let n = reading::read_full(&mut rt.reader(), &mut stream)?;
     let a = dense::read_stream(&stream[..n], &mut text);
-    printing::answer(a);
-    printing::words(b"\n");
+    printing::answer(&rt, a)?;
+    printing::words(&rt, b"\n")?;
     if a.refusal == 0 {
-        show(&text, a.value);
+        show(&rt, &text, a.value)?;
     }
+    Ok(())
 }
 
 // Prints the first ranks of a text.
-fn show(text: &[u32], count: usize) {
+fn show(rt: &impl Print, text: &[u32], count: usize) -> io::Result<()> {
     if count <= text.len() {
-        printing::words(b"ranks");
-        printing::ranks(&text[..count]);
-        printing::words(b"\n");
+        printing::words(rt, b"ranks")?;
+        printing::ranks(rt, &text[..count])?;
+        printing::words(rt, b"\n")?;
     }
+    Ok(())
 }

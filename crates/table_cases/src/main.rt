@@ -18,8 +18,8 @@
 #![tactic(auto)]
 
 use given::Numbers;
-use libc::STDIN_FILENO;
 use small_indexes::front_bytes;
+use std::io;
 
 // The most entries of a table: one more than it must have.
 const MOST_ENTRIES: usize = 257;
@@ -94,52 +94,71 @@ impl State {
 }
 
 // Checks the front of the table.
-fn check(state: State, numbers: Numbers) {
+fn check(rt: &impl Print, state: State, numbers: Numbers) -> io::Result<()> {
     let table = state.table;
-    printing::answered(lexicon::check_table(front_bytes(&table, numbers.values[0])));
+    printing::answered(
+        rt,
+        lexicon::check_table(front_bytes(&table, numbers.values[0])),
+    )
 }
 
 // Reads plain text with a table through a word list into a slice.
-fn read(table: &[u8], list: &[u8], text: &[u8], ranks: &mut [u32]) {
+fn read(
+    rt: &impl Print,
+    table: &[u8],
+    list: &[u8],
+    text: &[u8],
+    ranks: &mut [u32],
+) -> io::Result<()> {
     let answer = lent_tables::read_text_with(table, list, text, ranks);
-    printing::answered_with_ranks(answer, ranks);
+    printing::answered_with_ranks(rt, answer, ranks)
 }
 
 // Reads the plain text of a line into so many ranks, at most 20.
-fn text(state: State, line: &[u8], numbers: Numbers) {
+fn text(rt: &impl Print, state: State, line: &[u8], numbers: Numbers) -> io::Result<()> {
     let table = state.table;
     let list = state.list;
     let spelled = given::spelled_by(line, 3);
     let mut ranks = [9u32; 20];
     let size = base::least(numbers.values[1], 20);
     read(
+        rt,
         front_bytes(&table, numbers.values[0]),
         front_bytes(&list, state.size),
         front_bytes(&spelled.bytes, spelled.count),
         &mut ranks[..size],
-    );
+    )
 }
 
 // Finds the word that a line spells in the word list with the front of the table.
-fn known(state: State, line: &[u8], numbers: Numbers) {
+fn known(rt: &impl Print, state: State, line: &[u8], numbers: Numbers) -> io::Result<()> {
     let table = state.table;
     let list = state.list;
     let spelled = given::spelled_by(line, 2);
-    printing::answered(lent_tables::find_word_with(
-        front_bytes(&table, numbers.values[0]),
-        front_bytes(&list, state.size),
-        front_bytes(&spelled.bytes, spelled.count),
-    ));
+    printing::answered(
+        rt,
+        lent_tables::find_word_with(
+            front_bytes(&table, numbers.values[0]),
+            front_bytes(&list, state.size),
+            front_bytes(&spelled.bytes, spelled.count),
+        ),
+    )
 }
 
 // Makes a word list of plain text with a table in two slices.
-fn make(table: &[u8], text: &[u8], list: &mut [u8], ranks: &mut [u32]) {
+fn make(
+    rt: &impl Print,
+    table: &[u8],
+    text: &[u8],
+    list: &mut [u8],
+    ranks: &mut [u32],
+) -> io::Result<()> {
     let made = lent_tables::make_list_with(table, text, list, ranks);
-    printing::answered_with_list(made.answer, made.bytes, made.words, list, ranks);
+    printing::answered_with_list(rt, made.answer, made.bytes, made.words, list, ranks)
 }
 
 // Makes a word list of the plain text of a line in slices of so many bytes and ranks, at most 20.
-fn from(state: State, line: &[u8], numbers: Numbers) {
+fn from(rt: &impl Print, state: State, line: &[u8], numbers: Numbers) -> io::Result<()> {
     let table = state.table;
     let spelled = given::spelled_by(line, 4);
     let mut list = [9u8; 20];
@@ -147,50 +166,52 @@ fn from(state: State, line: &[u8], numbers: Numbers) {
     let size = base::least(numbers.values[1], 20);
     let count = base::least(numbers.values[2], 20);
     make(
+        rt,
         front_bytes(&table, numbers.values[0]),
         front_bytes(&spelled.bytes, spelled.count),
         &mut list[..size],
         &mut ranks[..count],
-    );
+    )
 }
 
 // Makes the call of a line, if it is one, and prints what came of it.
-fn show(state: State, line: &[u8], numbers: Numbers) {
+fn show(rt: &impl Print, state: State, line: &[u8], numbers: Numbers) -> io::Result<()> {
     if line.len() == 0 {
-        return;
+        return Ok(());
     }
     match line[0] {
-        b'c' => check(state, numbers),
-        b't' => text(state, line, numbers),
-        b'k' => known(state, line, numbers),
-        b'f' => from(state, line, numbers),
-        _ => {}
+        b'c' => check(rt, state, numbers),
+        b't' => text(rt, state, line, numbers),
+        b'k' => known(rt, state, line, numbers),
+        b'f' => from(rt, state, line, numbers),
+        _ => Ok(()),
     }
 }
 
 // Runs the case of a line.
-fn run_line(state: State, line: &[u8]) -> State {
+fn run_line(rt: &impl Print, state: State, line: &[u8]) -> io::Result<State> {
     let numbers = given::numbers_of(line);
-    printing::words(line);
-    show(state, line, numbers);
+    printing::words(rt, line)?;
+    show(rt, state, line, numbers)?;
     let next = state.changed(line, numbers);
-    printing::words(b"\n");
-    next
+    printing::words(rt, b"\n")?;
+    Ok(next)
 }
 
 // Runs the cases of all lines, each over the state that the one before it left.
-fn run(input: &[u8]) {
+fn run(rt: &impl Print, input: &[u8]) -> io::Result<()> {
     let mut state = State::first();
     let mut at: usize = 0;
     while at < input.len() {
         let end = given::line_end(input, at);
-        state = run_line(state, &input[at..end]);
+        state = run_line(rt, state, &input[at..end])?;
         at = end + 1;
     }
+    Ok(())
 }
 
-fn main() {
+fn main(rt: HostRuntime) -> io::Result<()> {
     let mut input = [0u8; 16384];
-    let size = io::read_full(STDIN_FILENO, &mut input);
-    run(&input[..size]);
+    let size = reading::read_full(&mut rt.reader(), &mut input)?;
+    run(&rt, &input[..size])
 }

@@ -10,7 +10,7 @@ use Rattle.formatting.proofs.write_decimal.Tie as tie
 
 -- what is made of the number are its digits
 made : (c : tie.After-decimal-count) → take c.decimal-count.result c.decimal-count.new.out ≡ decimal c.args.n
-made c = c.decimal-count.ensures.1.1 ∙ digits_decimal c.decimal-count.result c.args.n c.decimal-count.ensures.1.0
+made c = c.decimal-count.ensures.1.1.0 ∙ digits_decimal c.decimal-count.result c.args.n c.decimal-count.ensures.1.0
 
 decimal-requires : tie.Need-decimal-count-requires
 decimal-requires c κs = search rules

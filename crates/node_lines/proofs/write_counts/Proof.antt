@@ -13,62 +13,41 @@ use Rattle.node_lines.proofs.write_counts.Tie as tie
 room : (c : tie.Start) → 0 + length (counts_line c.args.words c.args.nodes c.args.bytes) ≤ length c.args.output.now
 room c = omega (arith, c.requires)
 
-slice-aggregate-write-labelled : tie.Need-slice-aggregate-write-labelled
-slice-aggregate-write-labelled c = search rules
-
-slice-aggregate-write-labelled-2 : tie.Need-slice-aggregate-write-labelled-2
-slice-aggregate-write-labelled-2 c = search rules
-
-slice-aggregate-write-labelled-3 : tie.Need-slice-aggregate-write-labelled-3
-slice-aggregate-write-labelled-3 c = search rules
-
-slice-aggregate-write-words : tie.Need-slice-aggregate-write-words
-slice-aggregate-write-words c = search rules
-
-write-labelled-requires : tie.Need-write-labelled-requires
+write-labelled-requires : tie.Need-write_labelled-first-requires
 unfolding counts_line
 write-labelled-requires c κs =
-    let start = c.before.before.before in
-    first_of_four (labelled (characters "words ") start.args.words) (labelled (characters " nodes ") start.args.nodes) (labelled (characters " bytes ") start.args.bytes) line_end 0 start.args.output.now (room start)
+    first_of_four (labelled (characters "words ") c.args.words) (labelled (characters " nodes ") c.args.nodes) (labelled (characters " bytes ") c.args.bytes) line_end 0 c.args.output.now (room (c.before.before.before.before))
 
-write-labelled-requires-2 : tie.Need-write-labelled-requires-2
+write-labelled-requires-2 : tie.Need-write_labelled-second-requires
 unfolding counts_line
 write-labelled-requires-2 c κs =
-    let start = c.before.before.before.before.before.before.before.before in
-    second_of_four (labelled (characters "words ") start.args.words) (labelled (characters " nodes ") start.args.nodes) (labelled (characters " bytes ") start.args.bytes) line_end 0 start.args.output.now (room start) c.before.before.before.before.write-labelled.ensures
+    second_of_four (labelled (characters "words ") c.args.words) (labelled (characters " nodes ") c.args.nodes) (labelled (characters " bytes ") c.args.bytes) line_end 0 c.args.output.now (room (c.before.before.before.before.before.before.before.before.before.before)) c.write_labelled-first.ensures
 
-write-labelled-requires-3 : tie.Need-write-labelled-requires-3
+write-labelled-requires-3 : tie.Need-write_labelled-third-requires
 unfolding counts_line
 write-labelled-requires-3 c κs =
-    let start = c.before.before.before.before.before.before.before.before.before.before.before.before.before in
-    third_of_four (labelled (characters "words ") start.args.words) (labelled (characters " nodes ") start.args.nodes) (labelled (characters " bytes ") start.args.bytes) line_end 0 start.args.output.now (room start) c.before.before.before.before.before.before.before.before.before.write-labelled.ensures c.before.before.before.before.write-labelled2.ensures
+    third_of_four (labelled (characters "words ") c.args.words) (labelled (characters " nodes ") c.args.nodes) (labelled (characters " bytes ") c.args.bytes) line_end 0 c.args.output.now (room (c.before.before.before.before.before.before.before.before.before.before.before.before.before.before.before.before)) c.write_labelled-first.ensures c.write_labelled-second.ensures
 
-write-words-requires : tie.Need-write-words-requires
+write-words-requires : tie.Need-write_words-requires
 unfolding counts_line
 write-words-requires c κs =
-    let start = c.before.before.before.before.before.before.before.before.before.before.before.before.before.before.before.before.before.before in
-    fourth_of_four (labelled (characters "words ") start.args.words) (labelled (characters " nodes ") start.args.nodes) (labelled (characters " bytes ") start.args.bytes) line_end 0 start.args.output.now (room start) c.before.before.before.before.before.before.before.before.before.before.before.before.before.before.write-labelled.ensures c.before.before.before.before.before.before.before.before.before.write-labelled2.ensures c.before.before.before.before.write-labelled3.ensures
+    fourth_of_four (labelled (characters "words ") c.args.words) (labelled (characters " nodes ") c.args.nodes) (labelled (characters " bytes ") c.args.bytes) line_end 0 c.args.output.now (room (c.before.before.before.before.before.before.before.before.before.before.before.before.before.before.before.before.before.before.before.before.before.before)) c.write_labelled-first.ensures c.write_labelled-second.ensures c.write_labelled-third.ensures
 
-same_length : tie.Need-same-length
+same_length : tie.Need-shape_of-output
 same_length c = search rules
 
 returns : tie.Need-returns
 unfolding counts_line
 returns c =
-    let start = c.before.before.before.before.before.before.before.before.before.before.before.before.before.before.before.before.before.before.before.before.before in
-    wrote_four (labelled (characters "words ") start.args.words) (labelled (characters " nodes ") start.args.nodes) (labelled (characters " bytes ") start.args.bytes) line_end 0 start.args.output.now (room start) c.before.before.before.before.before.before.before.before.before.before.before.before.before.before.before.before.before.write-labelled.ensures c.before.before.before.before.before.before.before.before.before.before.before.before.write-labelled2.ensures c.before.before.before.before.before.before.before.write-labelled3.ensures c.before.before.write-words.ensures
+    wrote_four (labelled (characters "words ") c.args.words) (labelled (characters " nodes ") c.args.nodes) (labelled (characters " bytes ") c.args.bytes) line_end 0 c.args.output.now (room (c.before.before.before.before.before.before.before.before.before.before.before.before.before.before.before.before.before.before.before.before.before.before.before.before.before)) c.write_labelled-first.ensures c.write_labelled-second.ensures c.write_labelled-third.ensures c.write_words.ensures
 
-pub write-counts-spec : {M : Type 1} → statement M
-write-counts-spec =
+pub write_counts_spec : {M : Type 1} → statement M
+write_counts_spec =
     tie.close
     (tie.spec
-    slice-aggregate-write-labelled
     write-labelled-requires
-    slice-aggregate-write-labelled-2
     write-labelled-requires-2
-    slice-aggregate-write-labelled-3
     write-labelled-requires-3
-    slice-aggregate-write-words
     write-words-requires
     same_length
     returns)

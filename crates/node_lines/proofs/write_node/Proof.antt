@@ -8,58 +8,41 @@ use Rattle.node_lines.specs.Lines.{line_end, node_line}
 use Rattle.node_lines.proofs.write_node.Statement.{statement}
 use Rattle.node_lines.proofs.write_node.Tie as tie
 
-slice-aggregate-write-labelled : tie.Need-slice-aggregate-write-labelled
-slice-aggregate-write-labelled c = search rules
-
-slice-aggregate-write-words : tie.Need-slice-aggregate-write-words
-slice-aggregate-write-words c = search rules
-
-slice-aggregate-write-words-2 : tie.Need-slice-aggregate-write-words-2
-slice-aggregate-write-words-2 c = search rules
-
-write-labelled-requires : tie.Need-write-labelled-requires
+write-labelled-requires : tie.Need-write_labelled-name-requires
 unfolding node_line
 write-labelled-requires c κs =
-    let start = c.before.before.before.before in
-    first_of_four (labelled (characters "node ") start.args.node) (characters ":") (bytes_text start.args.bytes.now) line_end start.args.at start.args.output.now start.requires
+    first_of_four (labelled (characters "node ") c.args.node) (characters ":") (bytes_text c.args.bytes.now) line_end c.args.at c.args.output.now c.requires
 
-write-words-requires : tie.Need-write-words-requires
+write-words-requires : tie.Need-write_words-colon-requires
 unfolding node_line
 write-words-requires c κs =
-    let start = c.before.before.before.before.before.before.before.before.before in
-    second_of_four (labelled (characters "node ") start.args.node) (characters ":") (bytes_text start.args.bytes.now) line_end start.args.at start.args.output.now start.requires c.before.before.before.before.write-labelled.ensures
+    second_of_four (labelled (characters "node ") c.args.node) (characters ":") (bytes_text c.args.bytes.now) line_end c.args.at c.args.output.now c.requires c.write_labelled-name.ensures
 
-write-bytes-requires : tie.Need-write-bytes-requires
+write-bytes-requires : tie.Need-write_bytes-end-requires
 unfolding node_line
 write-bytes-requires c κs =
-    let start = c.before.before.before.before.before.before.before.before.before.before.before.before.before in
-    omega (arith, third_of_four (labelled (characters "node ") start.args.node) (characters ":") (bytes_text start.args.bytes.now) line_end start.args.at start.args.output.now start.requires c.before.before.before.before.before.before.before.before.write-labelled.ensures c.before.before.before.write-words.ensures, length_bytes_text start.args.bytes.now)
+    omega (arith, third_of_four (labelled (characters "node ") c.args.node) (characters ":") (bytes_text c.args.bytes.now) line_end c.args.at c.args.output.now c.requires c.write_labelled-name.ensures c.write_words-colon.ensures, length_bytes_text c.args.bytes.now)
 
-write-words-requires-2 : tie.Need-write-words-requires-2
+write-words-requires-2 : tie.Need-write_words-requires
 unfolding node_line
 write-words-requires-2 c κs =
-    let start = c.before.before.before.before.before.before.before.before.before.before.before.before.before.before.before.before.before.before in
-    fourth_of_four (labelled (characters "node ") start.args.node) (characters ":") (bytes_text start.args.bytes.now) line_end start.args.at start.args.output.now start.requires c.before.before.before.before.before.before.before.before.before.before.before.before.before.write-labelled.ensures c.before.before.before.before.before.before.before.before.write-words.ensures c.before.before.before.before.write_bytes.ensures
+    fourth_of_four (labelled (characters "node ") c.args.node) (characters ":") (bytes_text c.args.bytes.now) line_end c.args.at c.args.output.now c.requires c.write_labelled-name.ensures c.write_words-colon.ensures c.write_bytes-end.ensures
 
-same_length : tie.Need-same-length
+same_length : tie.Need-shape_of-output
 same_length c = search rules
 
 returns : tie.Need-returns
 unfolding node_line
 returns c =
-    let start = c.before.before.before.before.before.before.before.before.before.before.before.before.before.before.before.before.before.before.before.before.before in
-    wrote_four (labelled (characters "node ") start.args.node) (characters ":") (bytes_text start.args.bytes.now) line_end start.args.at start.args.output.now start.requires c.before.before.before.before.before.before.before.before.before.before.before.before.before.before.before.before.write-labelled.ensures c.before.before.before.before.before.before.before.before.before.before.before.write-words.ensures c.before.before.before.before.before.before.before.write_bytes.ensures c.before.before.write-words2.ensures
+    wrote_four (labelled (characters "node ") c.args.node) (characters ":") (bytes_text c.args.bytes.now) line_end c.args.at c.args.output.now c.requires c.write_labelled-name.ensures c.write_words-colon.ensures c.write_bytes-end.ensures c.write_words.ensures
 
-pub write-node-spec : {M : Type 1} → statement M
-write-node-spec =
+pub write_node_spec : {M : Type 1} → statement M
+write_node_spec =
     tie.close
     (tie.spec
-    slice-aggregate-write-labelled
     write-labelled-requires
-    slice-aggregate-write-words
     write-words-requires
     write-bytes-requires
-    slice-aggregate-write-words-2
     write-words-requires-2
     same_length
     returns)

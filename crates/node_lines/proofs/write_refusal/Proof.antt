@@ -13,37 +13,28 @@ use Rattle.node_lines.proofs.write_refusal.Tie as tie
 room : (c : tie.Start) → 0 + length (refusal_line c.args.number) ≤ length c.args.output.now
 room c = omega (arith, c.requires)
 
-slice-aggregate-write-labelled : tie.Need-slice-aggregate-write-labelled
-slice-aggregate-write-labelled c = search rules
-
-write-labelled-requires : tie.Need-write-labelled-requires
+write-labelled-requires : tie.Need-write_labelled-last-requires
 unfolding refusal_line
 write-labelled-requires c κs =
-    let start = c.before.before.before in
-    room_first (labelled (characters "refused ") start.args.number) line_end 0 (length start.args.output.now) (room start)
+    room_first (labelled (characters "refused ") c.args.number) line_end 0 (length c.args.output.now) (room (c.before.before.before.before))
 
-slice-aggregate-write-words : tie.Need-slice-aggregate-write-words
-slice-aggregate-write-words c = search rules
-
-write-words-requires : tie.Need-write-words-requires
+write-words-requires : tie.Need-write_words-requires
 unfolding refusal_line
-write-words-requires c κs = room_second c.before.before.before.before.write-labelled.ensures line_end (room c.before.before.before.before.before.before.before.before)
+write-words-requires c κs = room_second c.write_labelled-last.ensures line_end (room (c.before.before.before.before.before.before.before.before.before.before))
 
-same_length : tie.Need-same-length
+same_length : tie.Need-shape_of-output
 same_length c = search rules
 
 returns : tie.Need-returns
 unfolding refusal_line
 returns c =
-    wrote_both c.before.before.before.before.before.before.before.write-labelled.ensures line_end (room c.before.before.before.before.before.before.before.before.before.before.before) c.before.before.write-words.ensures
+    wrote_both c.write_labelled-last.ensures line_end (room (c.before.before.before.before.before.before.before.before.before.before.before.before.before)) c.write_words.ensures
 
-pub write-refusal-spec : {M : Type 1} → statement M
-write-refusal-spec =
+pub write_refusal_spec : {M : Type 1} → statement M
+write_refusal_spec =
     tie.close
     (tie.spec
-    slice-aggregate-write-labelled
     write-labelled-requires
-    slice-aggregate-write-words
     write-words-requires
     same_length
     returns)

@@ -24,73 +24,69 @@ unfolding index_listing
 room c = omega (arith, index_length c.args.text.now c.requires.0 (small c), c.requires.3)
 
 -- the index stands in front of the slices
-built : (c : tie.After-node-count) → Listed c.before.before.before.before.before.before.before.before.before.before.before.before.args.text.now c.node-count.result c.before.before.before.before.before.build.result.value c.before.before.before.before.before.build.new.1.1.0 c.before.before.before.before.before.build.new.1.1.1.0
+built : (c : tie.After-node_count-nodes) → Listed c.args.text.now c.node_count-nodes.result c.build-built.result.value c.build-built.new.lengths c.build-built.new.bytes
 built c =
-    let start = c.before.before.before.before.before.before.before.before.before.before.before.before in
-    let call = c.before.before.before.before.before.build in
-    listed start.args.text.now start.requires.0 (small start) (arrays (replicate 129 0) (replicate 8192 0) (replicate 1280 0) (replicate 8448 0)) record { lengths = refl; bytes = refl; superblocks = refl; blocks = refl } start.args.vocabulary start.requires.1 call.result (arrays call.new.1.1.0 call.new.1.1.1.0 call.new.1.1.1.1.0 call.new.1.1.1.1.1.0) c.node-count.result call.ensures.0 call.ensures.1 c.node-count.ensures
+    let call = c.build-built in
+    listed c.args.text.now c.requires.0 (small (c.before.before.before.before.before.before.before.before.before.before.before.before)) (arrays (replicate 129 0) (replicate 8192 0) (replicate 1280 0) (replicate 8448 0)) record { lengths = refl; bytes = refl; superblocks = refl; blocks = refl } c.args.vocabulary c.requires.1 call.result (arrays call.new.lengths call.new.bytes call.new.superblocks call.new.blocks) c.node_count-nodes.result call.ensures.0 call.ensures.1 c.node_count-nodes.ensures
 
-slice-aggregate-build : tie.Need-slice-aggregate-build
+slice-aggregate-build : tie.Need-slice_bounds-build-end
 slice-aggregate-build c = search rules
 
-slice-aggregate-build-2 : tie.Need-slice-aggregate-build-2
+slice-aggregate-build-2 : tie.Need-slice_bounds-build-end-2
 slice-aggregate-build-2 c = search rules
 
-slice-aggregate-build-3 : tie.Need-slice-aggregate-build-3
+slice-aggregate-build-3 : tie.Need-slice_bounds-build-end-3
 slice-aggregate-build-3 c = search rules
 
-slice-aggregate-build-4 : tie.Need-slice-aggregate-build-4
+slice-aggregate-build-4 : tie.Need-slice_bounds-build-end-4
 slice-aggregate-build-4 c = search rules
 
-build-requires : tie.Need-build-requires
+build-requires : tie.Need-build-built-requires
 build-requires c κs = search rules
 
-node-count-requires : tie.Need-node-count-requires
+node-count-requires : tie.Need-node_count-nodes-requires
 node-count-requires c κs = search rules
 
-write-counts-requires : tie.Need-write-counts-requires
+write-counts-requires : tie.Need-write_counts-next-requires
 write-counts-requires c κs =
-    let start = c.before.before.before.before.before.before.before.before.before.before.before.before.before in
-    let text = start.args.text.now in
-    rw (counts_are text start.requires.0 (small start) (built c.before)) (omega (arith, room_first (counts_of text) (lines_of text) 0 (length start.args.output.now) (room start)))
+    let text = c.args.text.now in
+    rw (counts_are text c.requires.0 (small (c.before.before.before.before.before.before.before.before.before.before.before.before.before)) (built (c.before))) (omega (arith, room_first (counts_of text) (lines_of text) 0 (length c.args.output.now) (room (c.before.before.before.before.before.before.before.before.before.before.before.before.before))))
 
-array-share-prefix-lengths : tie.Need-array-share-prefix-lengths
+array-share-prefix-lengths : tie.Need-slice_bounds-lengths-end
 array-share-prefix-lengths c = search rules
 
-slice-aggregate-write-nodes : tie.Need-slice-aggregate-write-nodes
-slice-aggregate-write-nodes c = count_taken c.before.before.before.before.before.before.before.before.before.before.before.before.before.before.before.before.before.args.text.now c.before.before.before.before.before.before.before.before.before.before.before.before.before.before.before.before.before.requires.0 (small c.before.before.before.before.before.before.before.before.before.before.before.before.before.before.before.before.before) (built c.before.before.before.before.before)
+slice-aggregate-write-nodes : tie.Need-slice_bounds-write_nodes-end
+slice-aggregate-write-nodes c = count_taken c.args.text.now c.requires.0 (small (c.before.before.before.before.before.before.before.before.before.before.before.before.before.before.before.before.before)) (built (c.before.before.before.before.before))
 
-array-share-prefix-bytes : tie.Need-array-share-prefix-bytes
-array-share-prefix-bytes c = sum_inside c.before.before.before.before.before.before.before.before.before.before.before.before.before.before.before.before.before.args.text.now c.before.before.before.before.before.before.before.before.before.before.before.before.before.before.before.before.before.requires.0 (small c.before.before.before.before.before.before.before.before.before.before.before.before.before.before.before.before.before) (built c.before.before.before.before.before)
+array-share-prefix-bytes : tie.Need-slice_bounds-bytes-end
+array-share-prefix-bytes c = sum_inside c.args.text.now c.requires.0 (small (c.before.before.before.before.before.before.before.before.before.before.before.before.before.before.before.before.before)) (built (c.before.before.before.before.before))
 
-slice-aggregate-write-nodes-2 : tie.Need-slice-aggregate-write-nodes-2
-slice-aggregate-write-nodes-2 c = sum_taken c.before.before.before.before.before.before.before.before.before.before.before.before.before.before.before.before.before.before.args.text.now c.before.before.before.before.before.before.before.before.before.before.before.before.before.before.before.before.before.before.requires.0 (small c.before.before.before.before.before.before.before.before.before.before.before.before.before.before.before.before.before.before) (built c.before.before.before.before.before.before)
+slice-aggregate-write-nodes-2 : tie.Need-slice_bounds-write_nodes-end-2
+slice-aggregate-write-nodes-2 c = sum_taken c.args.text.now c.requires.0 (small (c.before.before.before.before.before.before.before.before.before.before.before.before.before.before.before.before.before.before)) (built (c.before.before.before.before.before.before))
 
-write-nodes-requires : tie.Need-write-nodes-requires
+write-nodes-requires : tie.Need-write_nodes-requires
 write-nodes-requires c κs =
-    let start = c.before.before.before.before.before.before.before.before.before.before.before.before.before.before.before.before.before.before.before in
-    let text = start.args.text.now in
-    let is = built c.before.before.before.before.before.before.before in
-    let line = rw (counts_are text start.requires.0 (small start) is) at c.before.before.before.before.before.write-counts.ensures in (
-      nodes_inside text start.requires.0 (small start) is,
-      rw (lines_are text start.requires.0 (small start) is) (room_second line (lines_of text) (room start)),
+    let text = c.args.text.now in
+    let is = built (c.before.before.before.before.before.before.before) in
+    let line = rw (counts_are text c.requires.0 (small (c.before.before.before.before.before.before.before.before.before.before.before.before.before.before.before.before.before.before.before)) is) at c.write_counts-next.ensures in (
+      nodes_inside text c.requires.0 (small (c.before.before.before.before.before.before.before.before.before.before.before.before.before.before.before.before.before.before.before)) is,
+      rw (lines_are text c.requires.0 (small (c.before.before.before.before.before.before.before.before.before.before.before.before.before.before.before.before.before.before.before)) is) (room_second line (lines_of text) (room (c.before.before.before.before.before.before.before.before.before.before.before.before.before.before.before.before.before.before.before))),
     )
 
-same_length : tie.Need-same-length
+same_length : tie.Need-shape_of-output
 same_length c = search rules
 
 returns : tie.Need-returns
 unfolding index_listing
 returns c =
-    let start = c.before.before.before.before.before.before.before.before.before.before.before.before.before.before.before.before.before.before.before.before.before.before in
-    let text = start.args.text.now in
-    let is = built c.before.before.before.before.before.before.before.before.before.before in
-    let line = rw (counts_are text start.requires.0 (small start) is) at c.before.before.before.before.before.before.before.before.write-counts.ensures in
-    let rest = rw (lines_are text start.requires.0 (small start) is) at c.before.before.write-nodes.ensures in
-    wrote_both line (lines_of text) (room start) rest
+    let text = c.args.text.now in
+    let is = built (c.before.before.before.before.before.before.before.before.before.before) in
+    let line = rw (counts_are text c.requires.0 (small (c.before.before.before.before.before.before.before.before.before.before.before.before.before.before.before.before.before.before.before.before.before.before)) is) at c.write_counts-next.ensures in
+    let rest = rw (lines_are text c.requires.0 (small (c.before.before.before.before.before.before.before.before.before.before.before.before.before.before.before.before.before.before.before.before.before.before)) is) at c.write_nodes.ensures in
+    wrote_both line (lines_of text) (room (c.before.before.before.before.before.before.before.before.before.before.before.before.before.before.before.before.before.before.before.before.before.before)) rest
 
-pub list-index-spec : {M : Type 1} → statement M
-list-index-spec =
+pub list_index_spec : {M : Type 1} → statement M
+list_index_spec =
     tie.close
     (tie.spec
     slice-aggregate-build

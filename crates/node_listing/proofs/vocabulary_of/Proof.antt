@@ -11,50 +11,50 @@ use Rattle.node_listing.proofs.Vocabulary.{largest_next}
 use Rattle.node_listing.proofs.vocabulary_of.Statement.{statement}
 use Rattle.node_listing.proofs.vocabulary_of.Tie as tie
 
-abbrev invariant-loop : tie.invariant-loop
+abbrev invariant-loop : tie.invariant-loop-place
 invariant-loop text largest₀ place₀ largest place = (place ≤ length text) × (largest ≡ largestOf (take place text)) × (largest < 4294967296)
 
-abbrev decreases-loop : tie.decreases-loop
+abbrev decreases-loop : tie.decreases-loop-place
 decreases-loop text largest₀ place₀ largest place = length text - place
 
-loop-holds : tie.Need-loop-init invariant-loop decreases-loop
+loop-holds : tie.Need-loop-place-init invariant-loop decreases-loop
 loop-holds c = search rules
 
-mul-rank : tie.Need-overflow-mul-rank invariant-loop decreases-loop
-mul-rank c = omega (arith, c.before.before.well-formed.0.1)
+mul-rank : tie.Need-offset_bounds-text-place invariant-loop decreases-loop
+mul-rank c = omega (arith, c.well_formed.0.1)
 
-shared-slice-read-rank : tie.Need-shared-slice-read-rank invariant-loop decreases-loop
+shared-slice-read-rank : tie.Need-bounds-text-place invariant-loop decreases-loop
 shared-slice-read-rank c = search rules
 
-cast-rank : tie.Need-overflow-cast-rank invariant-loop decreases-loop
-cast-rank c = omega (arith, c.shared-slice-known.given c.before.before.loop.place)
+cast-rank : tie.Need-overflow_cast-rank invariant-loop decreases-loop
+cast-rank c = omega (arith, c.shared_slice_known-1.given c.loop-place.place)
 
-add-place : tie.Need-overflow-add-place invariant-loop decreases-loop
+add-place : tie.Need-overflow_add-place invariant-loop decreases-loop
 add-place c = search rules
 
-loop-less : tie.Need-loop-smaller invariant-loop decreases-loop
+loop-less : tie.Need-loop-place-smaller invariant-loop decreases-loop
 loop-less c = search rules
 
-loop-again : tie.Need-loop-preserved invariant-loop decreases-loop
+loop-again : tie.Need-loop-place-preserved invariant-loop decreases-loop
 loop-again c =
-    let text = c.before.before.before.before.args.text.now in
-    let loop = c.before.before.before.loop in
-    let next = largest_next text loop.place c.before.before.loop-test.true in
-    let rank = c.before.shared-slice-known.given loop.place in
+    let text = c.args.text.now in
+    let loop = c.loop-place in
+    let next = largest_next text loop.place c.loop-place-test.true in
+    let rank = c.shared_slice_known-1.given loop.place in
     ⊎_elim
     (λ w. (omega arith, omega (arith, next, loop.invariant.1), omega (arith, rank)))
     (λ w. (omega arith, omega (arith, next, loop.invariant.1), omega (arith, rank)))
-    c.if1.branch
+    c.if-largest-rank.branch-raw
 
-add-result : tie.Need-overflow-add-result invariant-loop decreases-loop
+add-result : tie.Need-overflow_add-result invariant-loop decreases-loop
 add-result c = search rules
 
 returns : tie.Need-returns invariant-loop decreases-loop
 returns c =
-    omega (arith, c.before.loop.invariant.1, ap largestOf (take_all c.before.loop.place c.before.before.args.text.now (omega arith)))
+    omega (arith, c.loop-place.invariant.1, ap largestOf (take_all c.loop-place.place c.args.text.now (omega arith)))
 
-pub vocabulary-of-spec : {M : Type 1} → statement M
-vocabulary-of-spec =
+pub vocabulary_of_spec : {M : Type 1} → statement M
+vocabulary_of_spec =
     tie.close
     (tie.spec
     invariant-loop

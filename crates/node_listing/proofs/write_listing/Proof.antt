@@ -13,52 +13,50 @@ use Rattle.node_listing.proofs.write_listing.Statement.{statement}
 use Rattle.node_listing.proofs.write_listing.Tie as tie
 
 -- what is made stands in front, as many bytes as are returned
-made : (c : tie.After-list-stream) → (c.list-stream.result ≡ length (listingOf c.before.before.before.before.args.stream.now)) × (take c.list-stream.result c.list-stream.new.1.0 ≡ listingOf c.before.before.before.before.args.stream.now)
+made : (c : tie.After-list_stream-count) → (c.list_stream-count.result ≡ length (listingOf c.args.stream.now)) × (take c.list_stream-count.result c.list_stream-count.new.output ≡ listingOf c.args.stream.now)
 made c =
-    let w = wrote_front c.list-stream.ensures in
-    (w.0, ap₂ take w.0 w.1 ∙ take_front (listingOf c.before.before.before.before.args.stream.now) _)
+    let w = wrote_front c.list_stream-count.ensures in
+    (w.0, ap₂ take w.0 w.1 ∙ take_front (listingOf c.args.stream.now) _)
 
-slice-aggregate-list-stream : tie.Need-slice-aggregate-list-stream
+slice-aggregate-list-stream : tie.Need-slice_bounds-list_stream-end
 slice-aggregate-list-stream c = search rules
 
-list-stream-requires : tie.Need-list-stream-requires
+list-stream-requires : tie.Need-list_stream-count-requires
 list-stream-requires c κs = search rules
 
 refused-requires : tie.Need-refused-requires
 refused-requires c κs = search rules
 
-returns : tie.Need-returns
+returns : tie.Need-returns-then-output-count
 returns c =
-    let start = c.before.before.before.before.before.before.before in
-    let e = listing_short start.args.stream.now start.args.output.now (omega (arith, (made c.before.before.before).0, c.before.if1.true)) in
+    let e = listing_short c.args.stream.now c.args.output.now (omega (arith, (made (c.before.before.before)).0, c.if-output-count.true)) in
     (c.refused.ensures ∙ sym e.0, sym e.1)
 
-array-share-prefix-listing : tie.Need-array-share-prefix-listing
+array-share-prefix-listing : tie.Need-slice_bounds-listing-end
 array-share-prefix-listing c =
-    let call = c.before.before.list-stream in
-    omega (arith, (made c.before.before).0, ap length (made c.before.before).1, length-take call.result call.new.1.0)
+    let call = c.list_stream-count in
+    omega (arith, (made (c.before.before)).0, ap length (made (c.before.before)).1, length-take call.result call.new.output)
 
-slice-aggregate-write-words : tie.Need-slice-aggregate-write-words
-slice-aggregate-write-words c = (made c.before.before.before).0 ∙ sym (ap length (made c.before.before.before).1)
+slice-aggregate-write-words : tie.Need-slice_bounds-write_words-end
+slice-aggregate-write-words c = (made (c.before.before.before)).0 ∙ sym (ap length (made (c.before.before.before)).1)
 
-write-words-requires : tie.Need-write-words-requires
-write-words-requires c κs = omega (arith, (made c.before.before.before.before).0, ap length (made c.before.before.before.before).1, c.before.before.if1.false)
+write-words-requires : tie.Need-write_words-requires
+write-words-requires c κs = omega (arith, (made (c.before.before.before.before)).0, ap length (made (c.before.before.before.before)).1, c.if-output-count.false)
 
 accepted-requires : tie.Need-accepted-requires
 accepted-requires c κs = search rules
 
-same_length : tie.Need-same-length
+same_length : tie.Need-shape_of-output
 same_length c = search rules
 
-returns-2 : tie.Need-returns-2
+returns-2 : tie.Need-returns
 returns-2 c =
-    let start = c.before.before.before.before.before.before.before.before.before.before.before.before in
-    let e = listing_written start.args.stream.now start.args.output.now (omega (arith, (made c.before.before.before.before.before.before.before.before).0, c.before.before.before.before.before.before.if1.false)) in
-    let w = wrote_front (rw (made c.before.before.before.before.before.before.before.before).1 at c.before.before.before.write-words.ensures) in
-    (c.accepted.ensures ∙ ap accepted (made c.before.before.before.before.before.before.before.before).0 ∙ sym e.0, w.1 ∙ sym e.1)
+    let e = listing_written c.args.stream.now c.args.output.now (omega (arith, (made (c.before.before.before.before.before.before.before.before)).0, c.if-output-count.false)) in
+    let w = wrote_front (rw (made (c.before.before.before.before.before.before.before.before)).1 at c.write_words.ensures) in
+    (c.accepted.ensures ∙ ap accepted (made (c.before.before.before.before.before.before.before.before)).0 ∙ sym e.0, w.1 ∙ sym e.1)
 
-pub write-listing-spec : {M : Type 1} → statement M
-write-listing-spec =
+pub write_listing_spec : {M : Type 1} → statement M
+write_listing_spec =
     tie.close
     (tie.spec
     slice-aggregate-list-stream
