@@ -64,7 +64,7 @@ loop-again c =
     let often = c.frequency-often.ensures in (
       omega arith,
       ⊎_elim (λ x. omega arith) (λ x. omega arith) c.if-often-least.branch-raw,
-      ⊎_elim (λ x. rw (x.1, x.2) often) (λ x. rw (x.1, x.2) l.invariant.2) c.if-often-least.branch-raw,
+      ⊎_elim (λ x. rw (x.least-is, x.rare-is) often) (λ x. rw (x.least-is, x.rare-is) l.invariant.2) c.if-often-least.branch-raw,
       λ k h.
           ⊎_elim
           (λ g. ⊎_elim (λ x. omega (arith, l.invariant.3 k g)) (λ x. omega (arith, l.invariant.3 k g)) c.if-often-least.branch-raw)

@@ -47,10 +47,9 @@ returns c =
 
 returns-2 : tie.Need-returns-in-Pair
 returns-2 c =
-    let told = c.known_told-1.given in
     let n = c.text_length.result in
     let t = text_in c.args.s (arrays c.args.lengths.now c.args.bytes.now c.args.superblocks.now c.args.blocks.now) in
-    let e = c.second_at.ensures ∙ ap (λ (z : ℤ). second_at z n) (to_z-of_z {w = w32} {z = c.in-Pair.offset} (record { sfits = told.0.1 })) in
+    let e = c.second_at.ensures ∙ ap (λ (z : ℤ). second_at z n) (to_z-of_z {w = w32} {z = c.in-Pair.offset} (search rules)) in
     subst (λ (r : Second). SecondOf t c.args.words.now c.args.sought c.args.anchor r) (sym e)
     (pair_second t c.args.words.now c.args.sought c.in-Pair.offset c.args.anchor n c.in-Pair.is c.requires.1 c.requires.2
     (omega (arith, c.text_length.ensures.1 _ _ _ _ _ c.requires.0.ready.checked, text_most c.requires.0.ready.checked)))
