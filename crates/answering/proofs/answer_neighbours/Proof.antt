@@ -22,40 +22,36 @@ use Rattle.answering.proofs.answer_neighbours.Tie as tie
 refused-requires : tie.Need-refused-requires
 refused-requires c κs = search rules
 
-returns : tie.Need-returns
+returns : tie.Need-returns-then-shape-w
 returns c =
-    let st = c.before.before.before.before.before.before.before.before.before in
-    c.refused.ensures ∙ sym (neighbours_first st.args.shape.vocabulary _ st.args.documents.now st.args.w st.args.v st.args.offset c.before.if1.true)
+    c.refused.ensures ∙ sym (neighbours_first c.args.shape.vocabulary _ c.args.documents.now c.args.w c.args.v c.args.offset c.if-shape-w.true)
 
-refused-requires-2 : tie.Need-refused-requires-2
+refused-requires-2 : tie.Need-refused-requires-then-shape-v
 refused-requires-2 c κs = search rules
 
-returns-2 : tie.Need-returns-2
+returns-2 : tie.Need-returns-then-shape-v
 returns-2 c =
-    let st = c.before.before.before.before.before.before.before.before.before.before.before in
-    c.refused2.ensures ∙ sym (neighbours_second st.args.shape.vocabulary _ st.args.documents.now st.args.w st.args.v st.args.offset c.before.if2.true)
+    c.refused-then-shape-v.ensures ∙ sym (neighbours_second c.args.shape.vocabulary _ c.args.documents.now c.args.w c.args.v c.args.offset c.if-shape-v.true)
 
-sub-if3 : tie.Need-overflow-sub-if3
+sub-if3 : tie.Need-overflow_sub-t-14
 sub-if3 c = search rules
 
-refused-requires-3 : tie.Need-refused-requires-3
+refused-requires-3 : tie.Need-refused-requires-then-offset
 refused-requires-3 c κs = search rules
 
-returns-3 : tie.Need-returns-3
+returns-3 : tie.Need-returns-then-offset
 returns-3 c =
-    let st = c.before.before.before.before.before.before.before.before.before.before.before.before in
-    c.refused3.ensures ∙ sym (neighbours_far st.args.shape.vocabulary _ st.args.documents.now st.args.w st.args.v st.args.offset c.before.before.before.before.if1.false c.before.before.if2.false (offset_left st.args.offset (rw (to_z-of_z st.ranges.offset) at c.before.if3.true)))
+    c.refused-then-offset.ensures ∙ sym (neighbours_far c.args.shape.vocabulary _ c.args.documents.now c.args.w c.args.v c.args.offset c.if-shape-w.false c.if-shape-v.false (offset_left c.args.offset (rw (to_z-of_z c.ranges.offset) at c.if-offset.true)))
 
-refused-requires-4 : tie.Need-refused-requires-4
+refused-requires-4 : tie.Need-refused-requires-then-offset-gt-MAX_OFFSET
 refused-requires-4 c κs = search rules
 
-returns-4 : tie.Need-returns-4
+returns-4 : tie.Need-returns-then-offset-gt-MAX_OFFSET
 returns-4 c =
-    let st = c.before.before.before.before.before.before.before.before.before.before.before.before.before in
-    c.refused4.ensures ∙ sym (neighbours_far st.args.shape.vocabulary _ st.args.documents.now st.args.w st.args.v st.args.offset c.before.before.before.before.before.if1.false c.before.before.before.if2.false (offset_right st.args.offset (rw (to_z-of_z st.ranges.offset) at c.before.if4.true)))
+    c.refused-then-offset-gt-MAX_OFFSET.ensures ∙ sym (neighbours_far c.args.shape.vocabulary _ c.args.documents.now c.args.w c.args.v c.args.offset c.if-shape-w.false c.if-shape-v.false (offset_right c.args.offset (rw (to_z-of_z c.ranges.offset) at c.if-offset-gt-MAX_OFFSET.true)))
 
 -- past the four tests both ranks may be asked about, and the offset is near
-module _ (c : tie.Else4) where
+module _ (c : tie.Else-offset-gt-MAX_OFFSET) where
   abbrev start : tie.Start
   start = c.before.before.before.before.before.before.before.before.before.before.before.before
 
@@ -63,61 +59,57 @@ module _ (c : tie.Else4) where
   text = text_in start.args.s (arrays start.args.lengths.now start.args.bytes.now start.args.superblocks.now start.args.blocks.now)
 
   near : nat_abs start.args.offset ≤ max_offset
-  near = offset_near start.args.offset (rw (to_z-of_z start.fits.offset) at c.before.if3.false) (rw (to_z-of_z start.fits.offset) at c.if4.false)
+  near = offset_near start.args.offset (rw (to_z-of_z start.ranges.offset) at c.if-offset.false) (rw (to_z-of_z start.ranges.offset) at c.if-offset-gt-MAX_OFFSET.false)
 
   answered : neighbours_answer start.args.shape.vocabulary text start.args.documents.now start.args.w start.args.v start.args.offset
       ≡ accepted (neighbours_in start.args.documents.now text start.args.w start.args.v start.args.offset)
-  answered = neighbours_near start.args.shape.vocabulary text start.args.documents.now start.args.w start.args.v start.args.offset c.before.before.before.before.if1.false c.before.before.if2.false near
+  answered = neighbours_near start.args.shape.vocabulary text start.args.documents.now start.args.w start.args.v start.args.offset c.if-shape-w.false c.if-shape-v.false near
 
   -- an absent word stands nowhere
   absent : AbsentWord start.args.shape.vocabulary start.args.documents.now text
-  absent = absent_words start.args.shape.vocabulary start.args.documents.now text (ranks_below_lem start.pre.0.checked)
+  absent = absent_words start.args.shape.vocabulary start.args.documents.now text (ranks_below_lem start.requires.0.checked)
 
 accepted-requires : tie.Need-accepted-requires
 accepted-requires c κs = search rules
 
-returns-5 : tie.Need-returns-5
+returns-5 : tie.Need-returns-then-w-shape
 returns-5 c =
-    let e = c.before.before.before in
-    let st = start e in
+    let st = start (c.before.before.before) in
     c.accepted.ensures
-    ∙ ap accepted (sym (ap (λ (w : ℕ). neighbours_in st.args.documents.now (text e) w st.args.v st.args.offset) c.before.if5.true ∙ (absent e).first st.args.v st.args.offset))
-    ∙ sym (answered e)
+    ∙ ap accepted (sym (ap (λ (w : ℕ). neighbours_in st.args.documents.now (text (c.before.before.before)) w st.args.v st.args.offset) c.if-w-shape.true ∙ (absent (c.before.before.before)).first st.args.v st.args.offset))
+    ∙ sym (answered (c.before.before.before))
 
-accepted-requires-2 : tie.Need-accepted-requires-2
+accepted-requires-2 : tie.Need-accepted-requires-then-v-shape
 accepted-requires-2 c κs = search rules
 
-returns-6 : tie.Need-returns-6
+returns-6 : tie.Need-returns-then-v-shape
 returns-6 c =
-    let e = c.before.before.before.before.before in
-    let st = start e in
-    c.accepted2.ensures
-    ∙ ap accepted (sym (ap (λ (v : ℕ). neighbours_in st.args.documents.now (text e) st.args.w v st.args.offset) c.before.if6.true ∙ (absent e).second st.args.w st.args.offset))
-    ∙ sym (answered e)
+    let st = start (c.before.before.before.before.before) in
+    c.accepted-then-v-shape.ensures
+    ∙ ap accepted (sym (ap (λ (v : ℕ). neighbours_in st.args.documents.now (text (c.before.before.before.before.before)) st.args.w v st.args.offset) c.if-v-shape.true ∙ (absent (c.before.before.before.before.before)).second st.args.w st.args.offset))
+    ∙ sym (answered (c.before.before.before.before.before))
 
 neighbours-requires : tie.Need-neighbours-requires
 neighbours-requires c κs =
-    let e = c.before.before.before.before in
-    let st = start e in (
-      st.pre.0,
-      omega (arith, e.before.before.before.before.if1.false, c.before.before.if5.false),
-      omega (arith, e.before.before.if2.false, c.if6.false),
-      rw (to_z-of_z st.fits.offset) (near e),
-      st.pre.1,
+    let st = start (c.before.before.before.before) in (
+      st.requires.0,
+      omega (arith, c.if-shape-w.false, c.if-w-shape.false),
+      omega (arith, c.if-shape-v.false, c.if-v-shape.false),
+      rw (to_z-of_z st.ranges.offset) (near (c.before.before.before.before)),
+      st.requires.1,
     )
 
-accepted-requires-3 : tie.Need-accepted-requires-3
+accepted-requires-3 : tie.Need-accepted-requires-2
 accepted-requires-3 c κs = search rules
 
-returns-7 : tie.Need-returns-7
+returns-7 : tie.Need-returns
 returns-7 c =
-    let e = c.before.before.before.before.before.before in
-    let st = start e in
-    c.accepted3.ensures ∙ ap accepted (c.before.neighbours.ensures ∙ ap (neighbours_in st.args.documents.now _ st.args.w st.args.v) (to_z-of_z st.fits.offset))
-    ∙ sym (answered e)
+    let st = start (c.before.before.before.before.before.before) in
+    c.accepted-2.ensures ∙ ap accepted (c.neighbours.ensures ∙ ap (neighbours_in st.args.documents.now _ st.args.w st.args.v) (to_z-of_z st.ranges.offset))
+    ∙ sym (answered (c.before.before.before.before.before.before))
 
-pub answer-neighbours-spec : {M : Type 1} → statement M
-answer-neighbours-spec =
+pub answer_neighbours_spec : {M : Type 1} → statement M
+answer_neighbours_spec =
     tie.close
     (tie.spec
     refused-requires

@@ -17,54 +17,49 @@ use Rattle.answering.proofs.answer_occurrences.Tie as tie
 refused-requires : tie.Need-refused-requires
 refused-requires c κs = search rules
 
-returns : tie.Need-returns
+returns : tie.Need-returns-then-shape-rank
 returns c =
-    let st = c.before.before.before.before.before.before.before.before in
-    c.refused.ensures ∙ sym (occurrences_rank st.args.shape.vocabulary _ st.args.rank st.args.place c.before.if1.true)
+    c.refused.ensures ∙ sym (occurrences_rank c.args.shape.vocabulary _ c.args.rank c.args.place c.if-shape-rank.true)
 
-text-length-requires : tie.Need-text-length-requires
-text-length-requires c κs = checked_some c.before.before.before.before.before.before.before.requires.checked
+text-length-requires : tie.Need-text_length-requires
+text-length-requires c κs = checked_some c.requires.checked
 
-refused-requires-2 : tie.Need-refused-requires-2
+refused-requires-2 : tie.Need-refused-requires-then-text_length-place
 refused-requires-2 c κs = search rules
 
-returns-2 : tie.Need-returns-2
+returns-2 : tie.Need-returns-then-text_length-place
 returns-2 c =
-    let st = c.before.before.before.before.before.before.before.before.before.before in
-    let n = c.before.before.text-length.ensures.1 _ _ _ _ _ st.requires.checked in
-    c.refused2.ensures ∙ sym (occurrences_outside st.args.shape.vocabulary _ st.args.rank st.args.place c.before.before.before.if1.false (omega (arith, n, c.before.if2.true)))
+    let n = c.text_length.ensures.1 _ _ _ _ _ c.requires.checked in
+    c.refused-then-text_length-place.ensures ∙ sym (occurrences_outside c.args.shape.vocabulary _ c.args.rank c.args.place c.if-shape-rank.false (omega (arith, n, c.if-text_length-place.true)))
 
 -- an absent word is counted nowhere
 accepted-requires : tie.Need-accepted-requires
 accepted-requires c κs = search rules
 
-returns-3 : tie.Need-returns-3
+returns-3 : tie.Need-returns-then-rank-shape
 returns-3 c =
-    let st = c.before.before.before.before.before.before.before.before.before.before.before.before in
-    let n = c.before.before.before.before.text-length.ensures.1 _ _ _ _ _ st.requires.checked in
-    let v = st.args.shape.vocabulary in
-    let t = text_in st.args.s (arrays st.args.lengths.now st.args.bytes.now st.args.superblocks.now st.args.blocks.now) in
+    let n = c.text_length.ensures.1 _ _ _ _ _ c.requires.checked in
+    let v = c.args.shape.vocabulary in
+    let t = text_in c.args.s (arrays c.args.lengths.now c.args.bytes.now c.args.superblocks.now c.args.blocks.now) in
     c.accepted.ensures
-    ∙ ap accepted (sym (ap (λ (w : ℕ). occurrences_below t w st.args.place) c.before.if3.true ∙ (absent_words v [] t (ranks_below_lem st.requires.checked)).below st.args.place))
-    ∙ sym (occurrences_inside v t st.args.rank st.args.place c.before.before.before.before.before.if1.false (omega (arith, n, c.before.before.before.if2.false)))
+    ∙ ap accepted (sym (ap (λ (w : ℕ). occurrences_below t w c.args.place) c.if-rank-shape.true ∙ (absent_words v [] t (ranks_below_lem c.requires.checked)).below c.args.place))
+    ∙ sym (occurrences_inside v t c.args.rank c.args.place c.if-shape-rank.false (omega (arith, n, c.if-text_length-place.false)))
 
-occurrences-below-requires : tie.Need-occurrences-below-requires
+occurrences-below-requires : tie.Need-occurrences_below-requires
 occurrences-below-requires c κs =
-    let st = c.before.before.before.before.before.before.before.before.before.before.before in
-    let n = c.before.before.before.text-length.ensures.1 _ _ _ _ _ st.requires.checked in
-    (st.requires, omega (arith, c.before.before.before.before.if1.false, c.if3.false), omega (arith, n, c.before.before.if2.false))
+    let n = c.text_length.ensures.1 _ _ _ _ _ c.requires.checked in
+    (c.requires, omega (arith, c.if-shape-rank.false, c.if-rank-shape.false), omega (arith, n, c.if-text_length-place.false))
 
 accepted-requires-2 : tie.Need-accepted-requires-2
 accepted-requires-2 c κs = search rules
 
-returns-4 : tie.Need-returns-4
+returns-4 : tie.Need-returns
 returns-4 c =
-    let st = c.before.before.before.before.before.before.before.before.before.before.before.before.before in
-    let n = c.before.before.before.before.before.text-length.ensures.1 _ _ _ _ _ st.requires.checked in
-    c.accepted2.ensures ∙ ap accepted c.before.occurrences-below.ensures ∙ sym (occurrences_inside st.args.shape.vocabulary _ st.args.rank st.args.place c.before.before.before.before.before.before.if1.false (omega (arith, n, c.before.before.before.before.if2.false)))
+    let n = c.text_length.ensures.1 _ _ _ _ _ c.requires.checked in
+    c.accepted-2.ensures ∙ ap accepted c.occurrences_below.ensures ∙ sym (occurrences_inside c.args.shape.vocabulary _ c.args.rank c.args.place c.if-shape-rank.false (omega (arith, n, c.if-text_length-place.false)))
 
-pub answer-occurrences-spec : {M : Type 1} → statement M
-answer-occurrences-spec =
+pub answer_occurrences_spec : {M : Type 1} → statement M
+answer_occurrences_spec =
     tie.close
     (tie.spec
     refused-requires

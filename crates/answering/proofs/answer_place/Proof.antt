@@ -17,70 +17,63 @@ use Rattle.answering.proofs.answer_place.Tie as tie
 refused-requires : tie.Need-refused-requires
 refused-requires c κs = search rules
 
-returns : tie.Need-returns
+returns : tie.Need-returns-then-shape-rank
 returns c =
-    let st = c.before.before.before.before.before.before.before.before in
-    c.refused.ensures ∙ sym (place_rank st.args.shape.vocabulary _ st.args.rank st.args.p c.before.if1.true)
+    c.refused.ensures ∙ sym (place_rank c.args.shape.vocabulary _ c.args.rank c.args.p c.if-shape-rank.true)
 
 -- an absent word has no place
-refused-requires-2 : tie.Need-refused-requires-2
+refused-requires-2 : tie.Need-refused-requires-then-shape-rank-2
 refused-requires-2 c κs = search rules
 
-returns-2 : tie.Need-returns-2
+returns-2 : tie.Need-returns-then-shape-rank-2
 returns-2 c =
-    let st = c.before.before.before.before.before.before.before.before.before.before in
-    let v = st.args.shape.vocabulary in
-    let t = text_in st.args.s (arrays st.args.lengths.now st.args.bytes.now st.args.superblocks.now st.args.blocks.now) in
-    c.refused2.ensures
-    ∙ sym (place_never v t st.args.rank st.args.p c.before.before.before.if1.false (ap (frequency t) (sym c.before.if2.true) ∙ (absent_words v [] t (ranks_below_lem st.requires.checked)).never))
+    let v = c.args.shape.vocabulary in
+    let t = text_in c.args.s (arrays c.args.lengths.now c.args.bytes.now c.args.superblocks.now c.args.blocks.now) in
+    c.refused-then-shape-rank-2.ensures
+    ∙ sym (place_never v t c.args.rank c.args.p c.if-shape-rank.false (ap (frequency t) (sym c.if-shape-rank-2.true) ∙ (absent_words v [] t (ranks_below_lem c.requires.checked)).never))
 
-refused-requires-3 : tie.Need-refused-requires-3
+refused-requires-3 : tie.Need-refused-requires-then-p-lt1
 refused-requires-3 c κs = search rules
 
-returns-3 : tie.Need-returns-3
+returns-3 : tie.Need-returns-then-p-lt1
 returns-3 c =
-    let st = c.before.before.before.before.before.before.before.before.before.before.before in
-    c.refused3.ensures ∙ sym (place_outside st.args.shape.vocabulary _ st.args.rank st.args.p c.before.before.before.before.if1.false (below_range 1 _ st.args.p c.before.if3.true))
+    c.refused-then-p-lt1.ensures ∙ sym (place_outside c.args.shape.vocabulary _ c.args.rank c.args.p c.if-shape-rank.false (below_range 1 _ c.args.p c.if-p-lt1.true))
 
-way-of-requires : tie.Need-way-of-requires
+way-of-requires : tie.Need-way_of-way-requires
 way-of-requires c κs = search rules
 
 -- past the first two tests the rank is below V
-below : (c : tie.Else2) → let st = c.before.before.before.before.before.before.before.before.before in st.args.rank < st.args.shape.vocabulary
-below c = omega (arith, c.before.before.if1.false, c.if2.false)
+below : (c : tie.Else-shape-rank-2) → c.args.rank < c.args.shape.vocabulary
+below c = omega (arith, c.if-shape-rank.false, c.if-shape-rank-2.false)
 
-frequency-by-requires : tie.Need-frequency-by-requires
+frequency-by-requires : tie.Need-frequency_by-often-requires
 frequency-by-requires c κs =
-    let st = c.before.before.before.before.before.before.before.before.before.before.before.before in
-    (st.requires, below c.before.before.before, c.before.Way-of.ensures.first)
+    (c.requires, below (c.before.before.before), c.way_of-way.ensures.first)
 
-refused-requires-4 : tie.Need-refused-requires-4
+refused-requires-4 : tie.Need-refused-requires-then-often-p
 refused-requires-4 c κs = search rules
 
-returns-4 : tie.Need-returns-4
+returns-4 : tie.Need-returns-then-often-p
 returns-4 c =
-    let st = c.before.before.before.before.before.before.before.before.before.before.before.before.before.before.before in
-    let t = text_in st.args.s (arrays st.args.lengths.now st.args.bytes.now st.args.superblocks.now st.args.blocks.now) in
-    c.refused4.ensures ∙ sym (place_outside st.args.shape.vocabulary t st.args.rank st.args.p c.before.before.before.before.before.before.before.before.if1.false (above_range 1 (frequency t st.args.rank) st.args.p (omega (arith, c.before.before.frequency-by.ensures, c.before.if4.true))))
+    let t = text_in c.args.s (arrays c.args.lengths.now c.args.bytes.now c.args.superblocks.now c.args.blocks.now) in
+    c.refused-then-often-p.ensures ∙ sym (place_outside c.args.shape.vocabulary t c.args.rank c.args.p c.if-shape-rank.false (above_range 1 (frequency t c.args.rank) c.args.p (omega (arith, c.frequency_by-often.ensures, c.if-often-p.true))))
 
-nowhere-requires : tie.Need-nowhere-requires
+nowhere-requires : tie.Need-nowhere-near-requires
 nowhere-requires c κs = search rules
 
-place-along-requires : tie.Need-place-along-requires
+place-along-requires : tie.Need-place_along-next-requires
 place-along-requires c κs =
-    let st = c.before.before.before.before.before.before.before.before.before.before.before.before.before.before.before in
-    (st.requires, below c.before.before.before.before.before.before, c.before.before.before.before.Way-of.ensures, omega (arith, c.before.before.frequency-by.ensures, c.before.if4.false, c.before.before.before.before.before.if3.false))
+    (c.requires, below (c.before.before.before.before.before.before), c.way_of-way.ensures, omega (arith, c.frequency_by-often.ensures, c.if-often-p.false, c.if-p-lt1.false))
 
 accepted-requires : tie.Need-accepted-requires
 accepted-requires c κs = search rules
 
-returns-5 : tie.Need-returns-5
+returns-5 : tie.Need-returns
 returns-5 c =
-    let st = c.before.before.before.before.before.before.before.before.before.before.before.before.before.before.before.before.before in
-    c.accepted.ensures ∙ ap accepted c.before.place-along.ensures ∙ sym (place_inside st.args.shape.vocabulary _ st.args.rank st.args.p c.before.before.before.before.before.before.before.before.before.before.if1.false c.before.before.before.before.before.before.before.if3.false (omega (arith, c.before.before.before.before.frequency-by.ensures, c.before.before.before.if4.false)))
+    c.accepted.ensures ∙ ap accepted c.place_along-next.ensures ∙ sym (place_inside c.args.shape.vocabulary _ c.args.rank c.args.p c.if-shape-rank.false c.if-p-lt1.false (omega (arith, c.frequency_by-often.ensures, c.if-often-p.false)))
 
-pub answer-place-spec : {M : Type 1} → statement M
-answer-place-spec =
+pub answer_place_spec : {M : Type 1} → statement M
+answer_place_spec =
     tie.close
     (tie.spec
     refused-requires

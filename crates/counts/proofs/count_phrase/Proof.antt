@@ -13,53 +13,47 @@ use Rattle.counts.proofs.Hits.{phrase_hits}
 use Rattle.counts.proofs.count_phrase.Statement.{statement}
 use Rattle.counts.proofs.count_phrase.Tie as tie
 
-shared-slice-read-only : tie.Need-shared-slice-read-only
+shared-slice-read-only : tie.Need-bounds-words-0
 shared-slice-read-only c = search rules
 
-cast-only : tie.Need-overflow-cast-only
-cast-only c = omega (arith, c.shared-slice-known8.given 0)
+cast-only : tie.Need-overflow_cast-only
+cast-only c = omega (arith, c.shared_slice_known-then-m-eq1-1.given 0)
 
 frequency-requires : tie.Need-frequency-requires
 frequency-requires c κs =
-    let st = c.before.before.before.before.before.before.before.before.before in
-    (st.requires.0.ready, all_at (λ (x : ℕ). x < st.args.shape.vocabulary) st.args.words.now 0 0 st.requires.0.below st.requires.0.some)
+    (c.requires.0.ready, all_at (λ (x : ℕ). x < c.args.shape.vocabulary) c.args.words.now 0 0 c.requires.0.below c.requires.0.some)
 
-returns : tie.Need-returns
+returns : tie.Need-returns-then-m-eq1
 returns c =
-    let st = c.before.before.before.before.before.before.before.before.before.before in
-    let t = text_in st.args.s (arrays st.args.lengths.now st.args.bytes.now st.args.superblocks.now st.args.blocks.now) in
-    c.frequency.ensures ∙ only_word st.args.documents.now t st.args.words.now c.before.before.if1.true
+    let t = text_in c.args.s (arrays c.args.lengths.now c.args.bytes.now c.args.superblocks.now c.args.blocks.now) in
+    c.frequency.ensures ∙ only_word c.args.documents.now t c.args.words.now c.if-m-eq1.true
 
-slice-aggregate-first-bytes : tie.Need-slice-aggregate-first-bytes
+slice-aggregate-first-bytes : tie.Need-slice_bounds-first_bytes-end
 slice-aggregate-first-bytes c = search rules
 
-first-bytes-requires : tie.Need-first-bytes-requires
+first-bytes-requires : tie.Need-first_bytes-requires
 first-bytes-requires c κs =
-    let st = c.before.before.before.before.before.before.before.before.before in
-    let p = st.requires.0 in
-    (p.ready.checked.closing, below_weaken st.args.shape.vocabulary (max_vocabulary st.args.s) st.args.words.now p.ready.checked.limits.most_words p.below, omega (arith, p.most))
+    let p = c.requires.0 in
+    (p.ready.checked.closing, below_weaken c.args.shape.vocabulary (max_vocabulary c.args.s) c.args.words.now p.ready.checked.limits.most_words p.below, omega (arith, p.most))
 
-array-share-prefix-table : tie.Need-array-share-prefix-table
+array-share-prefix-table : tie.Need-slice_bounds-table-end
 array-share-prefix-table c = search rules
 
-slice-aggregate-count-hits : tie.Need-slice-aggregate-count-hits
+slice-aggregate-count-hits : tie.Need-slice_bounds-count_hits-end
 slice-aggregate-count-hits c =
-    let st = c.before.before.before.before.before.before.before.before.before.before.before.before in
-    sym (ap length (first_bytes_part st.args.s st.args.words.now _ _ c.before.before.first-bytes.ensures) ∙ first_bytes_length st.args.s st.args.words.now)
+    sym (ap length (first_bytes_part c.args.s c.args.words.now _ _ c.first_bytes.ensures) ∙ first_bytes_length c.args.s c.args.words.now)
 
-count-hits-requires : tie.Need-count-hits-requires
+count-hits-requires : tie.Need-count_hits-requires
 count-hits-requires c κs =
-    let st = c.before.before.before.before.before.before.before.before.before.before.before.before in
-    (searching st.args.words.now _ _ st.requires.0 c.before.before.first-bytes.ensures, tt, st.requires.1)
+    (searching c.args.words.now _ _ c.requires.0 c.first_bytes.ensures, tt, c.requires.1)
 
-returns-2 : tie.Need-returns-2
+returns-2 : tie.Need-returns
 returns-2 c =
-    let st = c.before.before.before.before.before.before.before.before.before.before.before.before.before in
-    let t = text_in st.args.s (arrays st.args.lengths.now st.args.bytes.now st.args.superblocks.now st.args.blocks.now) in
-    c.count-hits.ensures ∙ phrase_hits st.args.documents.now t st.args.words.now
+    let t = text_in c.args.s (arrays c.args.lengths.now c.args.bytes.now c.args.superblocks.now c.args.blocks.now) in
+    c.count_hits.ensures ∙ phrase_hits c.args.documents.now t c.args.words.now
 
-pub count-phrase-spec : {M : Type 1} → statement M
-count-phrase-spec =
+pub count_phrase_spec : {M : Type 1} → statement M
+count_phrase_spec =
     tie.close
     (tie.spec
     shared-slice-read-only

@@ -12,36 +12,34 @@ use Rattle.documents.proofs.Inside.{mirror_in}
 use Rattle.counts.proofs.neighbours.Statement.{statement}
 use Rattle.counts.proofs.neighbours.Tie as tie
 
-frequency-requires : tie.Need-frequency-requires
+frequency-requires : tie.Need-frequency-first-requires
 frequency-requires c κs = search rules
 
-frequency-requires-2 : tie.Need-frequency-requires-2
+frequency-requires-2 : tie.Need-frequency-second-requires
 frequency-requires-2 c κs = search rules
 
-count-pair-requires : tie.Need-count-pair-requires
+count-pair-requires : tie.Need-count_pair-requires
 count-pair-requires c κs = search rules
 
-returns : tie.Need-returns
+returns : tie.Need-returns-then-first-second
 returns c =
-    let st = c.before.before.before.before.before.before.before.before.before.before in
-    let t = text_in st.args.s (arrays st.args.lengths.now st.args.bytes.now st.args.superblocks.now st.args.blocks.now) in
-    c.count-pair.ensures ∙ ap (neighbours_in st.args.documents.now t st.args.w st.args.v) (to_z-of_z st.ranges.offset)
+    let t = text_in c.args.s (arrays c.args.lengths.now c.args.bytes.now c.args.superblocks.now c.args.blocks.now) in
+    c.count_pair.ensures ∙ ap (neighbours_in c.args.documents.now t c.args.w c.args.v) (to_z-of_z c.ranges.offset)
 
-negated-requires : tie.Need-negated-requires
+negated-requires : tie.Need-negated-back-requires
 negated-requires c κs = search rules
 
-count-pair-requires-2 : tie.Need-count-pair-requires-2
+count-pair-requires-2 : tie.Need-count_pair-requires-2
 count-pair-requires-2 c κs = search rules
 
-returns-2 : tie.Need-returns-2
+returns-2 : tie.Need-returns
 returns-2 c =
-    let st = c.before.before.before.before.before.before.before.before.before.before.before in
-    let t = text_in st.args.s (arrays st.args.lengths.now st.args.bytes.now st.args.superblocks.now st.args.blocks.now) in
-    let e : c.before.negated.result ≡ neg_ℤ st.args.offset = c.before.negated.ensures ∙ ap neg_ℤ (to_z-of_z st.ranges.offset) in
-    c.count-pair2.ensures ∙ ap (neighbours_in st.args.documents.now t st.args.v st.args.w) (ap (λ (z : ℤ). to_z w32 (of_z w32 z)) e ∙ to_z-of_z (negated_fits st.args.offset st.requires.3)) ∙ sym (mirror_in st.args.documents.now t st.args.w st.args.v st.args.offset)
+    let t = text_in c.args.s (arrays c.args.lengths.now c.args.bytes.now c.args.superblocks.now c.args.blocks.now) in
+    let e : c.negated-back.result ≡ neg_ℤ c.args.offset = c.negated-back.ensures ∙ ap neg_ℤ (to_z-of_z c.ranges.offset) in
+    c.count_pair-2.ensures ∙ ap (neighbours_in c.args.documents.now t c.args.v c.args.w) (ap (λ (z : ℤ). to_z w32 (of_z w32 z)) e ∙ to_z-of_z (negated_fits c.args.offset c.requires.3)) ∙ sym (mirror_in c.args.documents.now t c.args.w c.args.v c.args.offset)
 
-pub neighbours-spec : {M : Type 1} → statement M
-neighbours-spec =
+pub neighbours_spec : {M : Type 1} → statement M
+neighbours_spec =
     tie.close
     (tie.spec
     frequency-requires

@@ -29,7 +29,7 @@ use Rattle.paging.proofs.fill_page.Statement.{statement}
 use Rattle.paging.proofs.fill_page.Tie as tie
 
 -- the search is between its first place and the end, and the hits between its first place and its place are written
-abbrev invariant-loop : tie.invariant-loop
+abbrev invariant-loop : tie.invariant-loop-place
 invariant-loop s shape lengths bytes superblocks blocks starts documents firsts words lines₀ n end count₀ last₀ search₀ lines count last search =
     (search₀.place.0 ≤ search.place.0)
     × (search.place.0 ≤ end.0)
@@ -37,7 +37,7 @@ invariant-loop s shape lengths bytes superblocks blocks starts documents firsts 
     × SearchFor s shape (arrays lengths bytes superblocks blocks) starts words Phrase search
     × Filled lines₀ (hits_between (stands_in documents (text_in s (arrays lengths bytes superblocks blocks)) words) search₀.place.0 search.place.0) lines count last.0
 
-abbrev decreases-loop : tie.decreases-loop
+abbrev decreases-loop : tie.decreases-loop-place
 decreases-loop s shape lengths bytes superblocks blocks starts documents firsts words lines₀ n end count₀ last₀ search₀ lines count last search = end.0 - search.place.0
 
 -- the text, and the test of its places
@@ -47,157 +47,150 @@ text st = text_in st.args.s (arrays st.args.lengths.now st.args.bytes.now st.arg
 abbrev test : tie.Start invariant-loop decreases-loop → ℕ → Bool
 test st = stands_in st.args.documents.now (text st) st.args.words.now
 
-abbrev start : tie.After-text-length invariant-loop decreases-loop → tie.Start invariant-loop decreases-loop
+abbrev start : tie.After-text_length-n invariant-loop decreases-loop → tie.Start invariant-loop decreases-loop
 start c = c.before.before.before.before.before.before.before.before.before.before
 
-size : (c : tie.After-text-length invariant-loop decreases-loop) → c.text-length.result ≡ length (text (start c))
-size c = c.text-length.ensures.1 _ _ _ _ _ (start c).requires.0.searchable.ready.checked
+size : (c : tie.After-text_length-n invariant-loop decreases-loop) → c.text_length-n.result ≡ length (text (c.before.before.before.before.before.before.before.before.before.before))
+size c = c.text_length-n.ensures.1 _ _ _ _ _ c.requires.0.searchable.ready.checked
 
 -- the search began at the next place
-began : (c : tie.After-begin invariant-loop decreases-loop) → c.begin.result.place.0 ≡ (start c.before).args.next.0
-began c = ap (λ (x : Place). x.0) c.begin.ensures.1
+began : (c : tie.After-begin-search invariant-loop decreases-loop) → c.begin-search.result.place.0 ≡ c.args.next.0
+began c = ap (λ (x : Place). x.0) c.begin-search.ensures.1
 
-text-length-requires : tie.Need-text-length-requires invariant-loop decreases-loop
-text-length-requires c κs = checked_some c.before.before.before.before.before.before.before.before.before.requires.0.searchable.ready.checked
+text-length-requires : tie.Need-text_length-n-requires invariant-loop decreases-loop
+text-length-requires c κs = checked_some c.requires.0.searchable.ready.checked
 
-add-t22 : tie.Need-overflow-add-t22 invariant-loop decreases-loop
-add-t22 c = omega (arith, size c, text_most (start c).requires.0.searchable.ready.checked)
+add-t22 : tie.Need-overflow_add-end invariant-loop decreases-loop
+add-t22 c = omega (arith, size c, text_most c.requires.0.searchable.ready.checked)
 
-begin-requires : tie.Need-begin-requires invariant-loop decreases-loop
+begin-requires : tie.Need-begin-search-requires invariant-loop decreases-loop
 begin-requires c κs =
-    let st = start c in
-    (st.pre.0.searchable, tt, omega (arith, st.pre.1, text_most st.pre.0.searchable.ready.checked))
+    (c.requires.0.searchable, tt, omega (arith, c.requires.1, text_most c.requires.0.searchable.ready.checked))
 
-loop-holds : tie.Need-loop-init invariant-loop decreases-loop
-loop-holds c =
-    let st = start c.before in (
-      omega arith,
-      omega (arith, began c, size c.before, st.pre.1),
-      omega arith,
-      c.begin.ensures.0,
-      filling_starts (test st) c.begin.result.place.0 st.args.lines.now,
-    )
+loop-holds : tie.Need-loop-place-init invariant-loop decreases-loop
+loop-holds c = (
+  omega arith,
+  omega (arith, began c, size (c.before), c.requires.1),
+  omega arith,
+  c.begin-search.ensures.0,
+  filling_starts (test (c.before.before.before.before.before.before.before.before.before.before.before)) c.begin-search.result.place.0 c.args.lines.now,
+)
 
-next-hit-requires : tie.Need-next-hit-requires invariant-loop decreases-loop
-next-hit-requires c κs = ((start c.before.before).pre.0, c.loop.invariant.3, c.loop.invariant.1, (start c.before.before).pre.2)
+next-hit-requires : tie.Need-next_hit-reached-requires invariant-loop decreases-loop
+next-hit-requires c κs = (c.requires.0, c.loop-place.invariant.3, c.loop-place.invariant.1, c.requires.2)
 
 -- the place after the end of the text
-module _ (c : tie.At-loop invariant-loop decreases-loop) where
+module _ (c : tie.At-loop-place invariant-loop decreases-loop) where
   abbrev end : ℕ
-  end = c.before.before.text-length.result + 1
+  end = c.text_length-n.result + 1
 
-  end_is : end ≡ suc (length (text (start c.before.before)))
-  end_is = omega (arith, size c.before.before)
+  end_is : end ≡ suc (length (text (c.before.before.before.before.before.before.before.before.before.before.before.before)))
+  end_is = omega (arith, size (c.before.before))
 
   -- the number of hits written is small
-  few : c.loop.count ≤ max_words + 1
+  few : c.loop-place.count ≤ max_words + 1
   few =
       omega (
         arith,
-        c.loop.invariant.4.value_is,
-        c.loop.invariant.1,
-        length_filter_range (test (start c.before.before)) c.before.begin.result.place.0 (c.loop.search.place.0 - c.before.begin.result.place.0),
-        size c.before.before,
-        text_most (start c.before.before).pre.0.searchable.ready.checked,
+        c.loop-place.invariant.4.value_is,
+        c.loop-place.invariant.1,
+        length_filter_range (test (c.before.before.before.before.before.before.before.before.before.before.before.before)) c.begin-search.result.place.0 (c.loop-place.search.place.0 - c.begin-search.result.place.0),
+        size (c.before.before),
+        text_most c.requires.0.searchable.ready.checked,
       )
 
-enum-known-hit : tie.Need-enum-known-hit invariant-loop decreases-loop
+enum-known-hit : tie.Need-enum_known-hit invariant-loop decreases-loop
 enum-known-hit c = search rules
 
-enum_told : tie.Need-enum-told invariant-loop decreases-loop
+enum_told : tie.Need-enum_told-1 invariant-loop decreases-loop
 enum_told c = search rules
 
 ended-requires : tie.Need-ended-requires invariant-loop decreases-loop
 ended-requires c κs = search rules
 
-same_length : tie.Need-same-length invariant-loop decreases-loop
-same_length c = filled_length _ _ _ _ _ c.before.before.before.before.loop.invariant.4
+same_length : tie.Need-shape_of-lines-in_default invariant-loop decreases-loop
+same_length c = filled_length _ _ _ _ _ c.loop-place.invariant.4
 
-returns : tie.Need-returns invariant-loop decreases-loop
+returns : tie.Need-returns-in_default invariant-loop decreases-loop
 returns c =
-    let l = c.before.before.before.before in
-    let st = start l.before.before in
-    let entry = st.args.lines.now in
-    let none : least_hit (test st) l.loop.search.place.0 (end l) ≡ Nowhere = sym c.before.before.before.next-hit.ensures.hit_is ∙ c.before.enum_told.given.1 in
-    written_result (page_over (test st) (length (text st)) (length entry) st.args.next.0 false) entry l.loop.lines l.loop.count _ _ _ c.ended.result
-    (c.ended.ensures ∙ ap (ended_at l.loop.count) (size l.before.before))
-    (subst (λ (k : ℕ). Made (page_over (test st) (length (text st)) (length entry) k false) entry l.loop.lines l.loop.count false (length (text st)) true) (began l.before)
-    (filling_over (test st) (length (text st)) l.before.begin.result.place.0 l.loop.search.place.0 (end l) entry l.loop.lines l.loop.count l.loop.last.0 (end_is l) l.loop.invariant.0 l.loop.invariant.4 none l.loop.invariant.1))
+    let entry = c.args.lines.now in
+    let none : least_hit (test (c.before.before.before.before.before.before.before.before.before.before.before.before.before.before.before)) c.loop-place.search.place.0 (end (c.before.before.before)) ≡ Nowhere = sym c.next_hit-reached.ensures.hit_is ∙ c.in_default.is in
+    written_result (page_over (test (c.before.before.before.before.before.before.before.before.before.before.before.before.before.before.before)) (length (text (c.before.before.before.before.before.before.before.before.before.before.before.before.before.before.before))) (length entry) c.args.next.0 false) entry c.loop-place.lines c.loop-place.count _ _ _ c.ended.result
+    (c.ended.ensures ∙ ap (ended_at c.loop-place.count) (size (c.before.before.before.before.before)))
+    (subst (λ (k : ℕ). Made (page_over (test (c.before.before.before.before.before.before.before.before.before.before.before.before.before.before.before)) (length (text (c.before.before.before.before.before.before.before.before.before.before.before.before.before.before.before))) (length entry) k false) entry c.loop-place.lines c.loop-place.count false (length (text (c.before.before.before.before.before.before.before.before.before.before.before.before.before.before.before))) true) (began (c.before.before.before.before))
+    (filling_over (test (c.before.before.before.before.before.before.before.before.before.before.before.before.before.before.before)) (length (text (c.before.before.before.before.before.before.before.before.before.before.before.before.before.before.before))) c.begin-search.result.place.0 c.loop-place.search.place.0 (end (c.before.before.before)) entry c.loop-place.lines c.loop-place.count c.loop-place.last.0 (end_is (c.before.before.before)) c.loop-place.invariant.0 c.loop-place.invariant.4 none c.loop-place.invariant.1))
 
 -- a hit is the least from the place of the search on, and the search goes on after it
-module _ (c : tie.After-hit invariant-loop decreases-loop) where
-  abbrev l : tie.At-loop invariant-loop decreases-loop
-  l = c.before.before.before
+module _ (c : tie.In-At invariant-loop decreases-loop) where
+  abbrev l : tie.At-loop-place invariant-loop decreases-loop
+  l = c.before.before
 
   abbrev hit : Place
-  hit = c.hit.given.0.0
+  hit = c.in-At.place
 
-  least : least_hit (test (start l.before.before)) l.loop.search.place.0 (end l) ≡ At hit
-  least = sym c.before.before.next-hit.ensures.hit_is ∙ c.hit.given.1
+  least : least_hit (test (start l.before.before)) l.loop-place.search.place.0 (end l) ≡ At hit
+  least = sym c.next_hit-reached.ensures.hit_is ∙ c.in-At.is
 
-  onward : c.before.before.next-hit.result.search.place.0 ≡ hit.0 + 1
-  onward = c.before.before.next-hit.ensures.place_is ∙ ap (λ (h : Hit). place_after h (end l)) c.hit.given.1
+  onward : c.next_hit-reached.result.search.place.0 ≡ hit.0 + 1
+  onward = c.next_hit-reached.ensures.place_is ∙ ap (λ (h : Hit). place_after h (end l)) c.in-At.is
 
-  after : l.loop.search.place.0 ≤ hit.0
-  after = hit_after (test (start l.before.before)) l.loop.search.place.0 (end l) hit least
+  after : l.loop-place.search.place.0 ≤ hit.0
+  after = hit_after (test (start l.before.before)) l.loop-place.search.place.0 (end l) hit least
 
   inside : hit.0 ≤ length (text (start l.before.before))
-  inside = omega (arith, hit_below (test (start l.before.before)) l.loop.search.place.0 (end l) hit least, end_is l)
+  inside = omega (arith, hit_below (test (start l.before.before)) l.loop-place.search.place.0 (end l) hit least, end_is l)
 
   small : hit.0 ≤ max_words
-  small = omega (arith, inside, text_most (start l.before.before).pre.0.searchable.ready.checked)
+  small = omega (arith, inside, text_most (start l.before.before).requires.0.searchable.ready.checked)
 
 full-requires : tie.Need-full-requires invariant-loop decreases-loop
-full-requires c κs = (l c.before.before).loop.inv.2
+full-requires c κs = (l (c.before)).loop-place.invariant.2
 
-same-length-2 : tie.Need-same-length-2 invariant-loop decreases-loop
-same-length-2 c = filled_length _ _ _ _ _ (l c.before.before.before).loop.inv.4
+same-length-2 : tie.Need-shape_of-lines-then-count-lines invariant-loop decreases-loop
+same-length-2 c = filled_length _ _ _ _ _ (l (c.before.before)).loop-place.invariant.4
 
-returns-2 : tie.Need-returns-2 invariant-loop decreases-loop
+returns-2 : tie.Need-returns-then-count-lines invariant-loop decreases-loop
 returns-2 c =
-    let h = c.before.before.before in
-    let at = l h in
+    let at = l (c.before.before) in
     let st = start at.before.before in
     let entry = st.args.lines.now in
-    written_result (page_over (test st) (length (text st)) (length entry) st.args.next.0 false) entry at.loop.lines at.loop.count _ _ _ c.full.result c.full.ensures
-    (subst (λ (k : ℕ). Made (page_over (test st) (length (text st)) (length entry) k false) entry at.loop.lines at.loop.count true (at.loop.last.0 + 1) false) (began at.before)
-    (filling_full (test st) (length (text st)) at.before.begin.result.place.0 at.loop.search.place.0 (end at) entry at.loop.lines at.loop.count at.loop.last.0 (end_is at) at.loop.inv.0 at.loop.inv.4 (hit h) (least h) c.before.if1.true))
+    written_result (page_over (test st) (length (text st)) (length entry) st.args.next.0 false) entry at.loop-place.lines at.loop-place.count _ _ _ c.full.result c.full.ensures
+    (subst (λ (k : ℕ). Made (page_over (test st) (length (text st)) (length entry) k false) entry at.loop-place.lines at.loop-place.count true (at.loop-place.last.0 + 1) false) (began at.before)
+    (filling_full (test st) (length (text st)) at.before.begin-search.result.place.0 at.loop-place.search.place.0 (end at) entry at.loop-place.lines at.loop-place.count at.loop-place.last.0 (end_is at) at.loop-place.invariant.0 at.loop-place.invariant.4 (hit (c.before.before)) (least (c.before.before)) c.if-count-lines.true))
 
-cast-lines : tie.Need-overflow-cast-lines invariant-loop decreases-loop
-cast-lines c = omega (arith, small c.before.before.before, (l c.before.before.before).loop.inv.2)
+cast-lines : tie.Need-overflow_cast-lines invariant-loop decreases-loop
+cast-lines c = omega (arith, small (c.before.before), (l (c.before.before)).loop-place.invariant.2)
 
-mul-lines : tie.Need-overflow-mul-lines invariant-loop decreases-loop
-mul-lines c = omega (arith, few (l c.before.before.before))
+mul-lines : tie.Need-offset_bounds-lines-count invariant-loop decreases-loop
+mul-lines c = omega (arith, few (l (c.before.before)))
 
-slice-write-lines : tie.Need-slice-write-lines invariant-loop decreases-loop
+slice-write-lines : tie.Need-bounds-lines-count invariant-loop decreases-loop
 slice-write-lines c =
-    let at = l c.before.before.before in
-    omega (arith, filled_length _ _ _ _ _ at.loop.inv.4, at.loop.inv.4.fits, c.before.if1.false)
+    let at = l (c.before.before) in
+    omega (arith, filled_length _ _ _ _ _ at.loop-place.invariant.4, at.loop-place.invariant.4.fits, c.if-count-lines.false)
 
-add-count : tie.Need-overflow-add-count invariant-loop decreases-loop
-add-count c = omega (arith, few (l c.before.before.before))
+add-count : tie.Need-overflow_add-count invariant-loop decreases-loop
+add-count c = omega (arith, few (l (c.before.before)))
 
-loop-less : tie.Need-loop-smaller invariant-loop decreases-loop
+loop-less : tie.Need-loop-place-smaller invariant-loop decreases-loop
 loop-less c =
-    let h = c.before.before.before.before in
-    omega (arith, onward h, after h, inside h, end_is (l h))
+    omega (arith, onward (c.before.before.before), after (c.before.before.before), inside (c.before.before.before), end_is (l (c.before.before.before)))
 
-loop-again : tie.Need-loop-preserved invariant-loop decreases-loop
+loop-again : tie.Need-loop-place-preserved invariant-loop decreases-loop
 loop-again c =
-    let h = c.before.before.before.before in
-    let at = l h in
+    let at = l (c.before.before.before) in
     let st = start at.before.before in (
-      omega (arith, onward h, after h, at.loop.inv.0),
-      omega (arith, onward h, inside h, end_is at),
-      small h,
-      h.before.before.next-hit.ensures.search_is,
-      rw (onward h)
-          (filling_more (test st) (length (text st)) at.before.begin.result.place.0 at.loop.search.place.0 (end at) st.args.lines.now at.loop.lines at.loop.count at.loop.last.0 (end_is at) at.loop.inv.0 at.loop.inv.4 (hit h) (least h)
-          (omega (arith, filled_length _ _ _ _ _ at.loop.inv.4, at.loop.inv.4.fits, c.before.before.if1.false))),
+      omega (arith, onward (c.before.before.before), after (c.before.before.before), at.loop-place.invariant.0),
+      omega (arith, onward (c.before.before.before), inside (c.before.before.before), end_is at),
+      small (c.before.before.before),
+      c.next_hit-reached.ensures.search_is,
+      rw (onward (c.before.before.before))
+          (filling_more (test st) (length (text st)) at.before.begin-search.result.place.0 at.loop-place.search.place.0 (end at) st.args.lines.now at.loop-place.lines at.loop-place.count at.loop-place.last.0 (end_is at) at.loop-place.invariant.0 at.loop-place.invariant.4 (hit (c.before.before.before)) (least (c.before.before.before))
+          (omega (arith, filled_length _ _ _ _ _ at.loop-place.invariant.4, at.loop-place.invariant.4.fits, c.if-count-lines.false))),
     )
 
-pub fill-page-spec : {M : Type 1} → statement M
-fill-page-spec =
+pub fill_page_spec : {M : Type 1} → statement M
+fill_page_spec =
     tie.close
     (tie.spec
     invariant-loop

@@ -23,77 +23,71 @@ use Rattle.paging.proofs.write_page.Tie as tie
 abbrev text : tie.Start → List ℕ
 text st = text_in st.args.s (arrays st.args.lengths.now st.args.bytes.now st.args.superblocks.now st.args.blocks.now)
 
-size : (c : tie.After-text-length) → c.text-length.result ≡ length (text c.before.before.before.before.before.before.before.before.before)
-size c = c.text-length.ensures.1 _ _ _ _ _ c.before.before.before.before.before.before.before.before.before.requires.0
+size : (c : tie.After-text_length) → c.text_length.result ≡ length (text (c.before.before.before.before.before.before.before.before.before))
+size c = c.text_length.ensures.1 _ _ _ _ _ c.requires.0
 
-text-length-requires : tie.Need-text-length-requires
-text-length-requires c κs = checked_some c.before.before.before.before.before.before.before.before.requires.0
+text-length-requires : tie.Need-text_length-requires
+text-length-requires c κs = checked_some c.requires.0
 
-write-places-requires : tie.Need-write-places-requires
+write-places-requires : tie.Need-write_places-requires
 write-places-requires c κs =
-    let st = c.before.before.before.before.before.before.before.before.before.before in
-    (omega (arith, size c.before, st.requires.3), omega (arith, size c.before, text_most st.requires.0))
+    (omega (arith, size (c.before), c.requires.3), omega (arith, size (c.before), text_most c.requires.0))
 
-same_length : tie.Need-same-length
+same_length : tie.Need-shape_of-lines-then-m-eq0
 same_length c = search rules
 
-returns : tie.Need-returns
+returns : tie.Need-returns-then-m-eq0
 returns c =
-    let st = c.before.before.before.before.before.before.before.before.before.before.before.before.before in
-    let entry = st.args.lines.now in
-    let e = none_page st.args.documents.now (text st) st.args.words.now c.before.before.before.before.text-length.result (length entry) st.args.next.0 c.before.before.before.before.before.if1.true (size c.before.before.before.before) in
-    (c.before.before.write-places.ensures.0 ∙ ap written_of e, c.before.before.write-places.ensures.1 ∙ ap (λ (p : HitPage). front p.found entry) e)
+    let entry = c.args.lines.now in
+    let e = none_page c.args.documents.now (text (c.before.before.before.before.before.before.before.before.before.before.before.before.before)) c.args.words.now c.text_length.result (length entry) c.args.next.0 c.if-m-eq0.true (size (c.before.before.before.before)) in
+    (c.write_places.ensures.0 ∙ ap written_of e, c.write_places.ensures.1 ∙ ap (λ (p : HitPage). front p.found entry) e)
 
-slice-aggregate-node-starts : tie.Need-slice-aggregate-node-starts
+slice-aggregate-node-starts : tie.Need-slice_bounds-node_starts-end
 slice-aggregate-node-starts c = search rules
 
-node-starts-requires : tie.Need-node-starts-requires
+node-starts-requires : tie.Need-node_starts-requires
 node-starts-requires c κs =
-    let st = c.before.before.before.before.before.before.before.before.before in
-    (omega (arith, checked_most st.requires.0), checked_total st.requires.0)
+    (omega (arith, checked_most c.requires.0), checked_total c.requires.0)
 
-slice-aggregate-first-bytes : tie.Need-slice-aggregate-first-bytes
+slice-aggregate-first-bytes : tie.Need-slice_bounds-first_bytes-end
 slice-aggregate-first-bytes c = search rules
 
-first-bytes-requires : tie.Need-first-bytes-requires
+first-bytes-requires : tie.Need-first_bytes-requires
 first-bytes-requires c κs =
-    let st = c.before.before.before.before.before.before.before.before.before.before.before.before in
-    (st.requires.0.closing, below_weaken st.args.shape.vocabulary (max_vocabulary st.args.s) st.args.words.now st.requires.0.limits.most_words st.requires.2, omega (arith, st.requires.1))
+    (c.requires.0.closing, below_weaken c.args.shape.vocabulary (max_vocabulary c.args.s) c.args.words.now c.requires.0.limits.most_words c.requires.2, omega (arith, c.requires.1))
 
-slice-aggregate-fill-page : tie.Need-slice-aggregate-fill-page
+slice-aggregate-fill-page : tie.Need-slice_bounds-fill_page-end
 slice-aggregate-fill-page c = search rules
 
-array-share-prefix-table : tie.Need-array-share-prefix-table
+array-share-prefix-table : tie.Need-slice_bounds-table-end
 array-share-prefix-table c = search rules
 
-slice-aggregate-fill-page-2 : tie.Need-slice-aggregate-fill-page-2
+slice-aggregate-fill-page-2 : tie.Need-slice_bounds-fill_page-end-2
 slice-aggregate-fill-page-2 c =
-    let st = c.before.before.before.before.before.before.before.before.before.before.before.before.before.before.before.before in
-    sym (ap length (first_bytes_part st.args.s st.args.words.now _ _ c.before.before.before.first-bytes.ensures) ∙ first_bytes_length st.args.s st.args.words.now)
+    sym (ap length (first_bytes_part c.args.s c.args.words.now _ _ c.first_bytes.ensures) ∙ first_bytes_length c.args.s c.args.words.now)
 
-fill-page-requires : tie.Need-fill-page-requires
-fill-page-requires c κs =
-    let st = c.before.before.before.before.before.before.before.before.before.before.before.before.before.before.before.before.before in (
-      searching st.args.words.now _ _
-          record {
-            ready = record { checked = st.requires.0; nodes = c.before.before.before.before.before.before.before.node-starts.ensures };
-            some = omega (arith, c.before.before.before.before.before.before.before.before.before.if1.false);
-            most = st.requires.1;
-            below = st.requires.2;
-          }
-          c.before.before.before.before.first-bytes.ensures,
-      st.requires.3,
-      st.requires.4,
-    )
+fill-page-requires : tie.Need-fill_page-requires
+fill-page-requires c κs = (
+  searching c.args.words.now _ _
+      record {
+        ready = record { checked = c.requires.0; nodes = c.node_starts.ensures };
+        some = omega (arith, c.if-m-eq0.false);
+        most = c.requires.1;
+        below = c.requires.2;
+      }
+      c.first_bytes.ensures,
+  c.requires.3,
+  c.requires.4,
+)
 
-same-length-2 : tie.Need-same-length-2
+same-length-2 : tie.Need-shape_of-lines
 same-length-2 c = search rules
 
-returns-2 : tie.Need-returns-2
+returns-2 : tie.Need-returns
 returns-2 c = search rules
 
-pub write-page-spec : {M : Type 1} → statement M
-write-page-spec =
+pub write_page_spec : {M : Type 1} → statement M
+write_page_spec =
     tie.close
     (tie.spec
     text-length-requires
