@@ -2,4 +2,3 @@
 // pages of the phrase of no words: the crate is the theorem, over what the contracts of the calls
 // cite. There is no code.
 #![tactic(auto)]
-

@@ -26,15 +26,15 @@ abbrev four : tie.Start → Arrays
 four c = arrays c.args.lengths.now c.args.bytes.now c.args.superblocks.now c.args.blocks.now
 
 -- past the first test the slices have passed the check, and the starts keep the rules
-module _ (c : tie.Else1) where
+module _ (c : tie.Else-checked-ne0) where
   abbrev start : tie.Start
   start = c.before.before.before.before.before.before.before.before.before
 
   clear : (check_answer start.args.s start.args.shape (four start) ≡ accepted 0) × (are_starts (length (text_in start.args.s (four start))) start.args.documents.now ≡ true)
-  clear = check_in_clear start.args.s start.args.shape (four start) start.args.documents.now (ap (λ (r : Answer). r.refusal) (sym c.before.before.check-in-documents.ensures) ∙ c.if1.false)
+  clear = check_in_clear start.args.s start.args.shape (four start) start.args.documents.now (ap (λ (r : Answer). r.refusal) (sym c.check_in_documents-checked.ensures) ∙ c.if-checked-ne0.false)
 
   checked : Checked start.args.s start.args.shape (four start)
-  checked = accepted_checked start.args.s start.pre start.args.shape (four start) (ap (λ (r : Answer). r.refusal) clear.0)
+  checked = accepted_checked start.args.s start.requires start.args.shape (four start) (ap (λ (r : Answer). r.refusal) clear.0)
 
   -- and the question is answered of their text
   answered : ask_answer_in start.args.s start.args.shape (four start) start.args.documents.now start.args.words.now start.args.question
@@ -42,52 +42,49 @@ module _ (c : tie.Else1) where
   answered = ask_in_passed start.args.s start.args.shape (four start) start.args.documents.now start.args.words.now start.args.question clear.0 clear.1
 
 -- the length of the text as it is read
-size : (c : tie.After-text-length) → c.text-length.result ≡ length (text_in (start c.before.before.before.before.before).args.s (four (start c.before.before.before.before.before)))
-size c = c.text-length.ensures.1 _ _ _ _ _ (checked c.before.before.before.before.before)
+size : (c : tie.After-text_length-n) → c.text_length-n.result ≡ length (text_in (start (c.before.before.before.before.before)).args.s (four (start (c.before.before.before.before.before))))
+size c = c.text_length-n.ensures.1 _ _ _ _ _ (checked (c.before.before.before.before.before))
 
-check-in-documents-requires : tie.Need-check-in-documents-requires
+check-in-documents-requires : tie.Need-check_in_documents-checked-requires
 check-in-documents-requires c κs = search rules
 
-returns : tie.Need-returns
+returns : tie.Need-returns-then-checked-ne0
 returns c =
-    let st = c.before.before.before.before.before.before.before.before.before in
-    let e = c.before.before.check-in-documents.ensures in
-    e ∙ sym (ask_in_refused st.args.s st.args.shape (four st) st.args.documents.now st.args.words.now st.args.question (λ z. c.if1.true (ap (λ (r : Answer). r.refusal) e ∙ z)))
+    let e = c.check_in_documents-checked.ensures in
+    e ∙ sym (ask_in_refused c.args.s c.args.shape (four (c.before.before.before.before.before.before.before.before.before)) c.args.documents.now c.args.words.now c.args.question (λ z. c.if-checked-ne0.true (ap (λ (r : Answer). r.refusal) e ∙ z)))
 
-text-length-requires : tie.Need-text-length-requires
-text-length-requires c κs = checked_some (checked c.before.before.before.before)
+text-length-requires : tie.Need-text_length-n-requires
+text-length-requires c κs = checked_some (checked (c.before.before.before.before))
 
-answer-no-words-requires : tie.Need-answer-no-words-requires
-answer-no-words-requires c κs = omega (arith, size c, text_most (checked c.before.before.before.before.before))
+answer-no-words-requires : tie.Need-answer_no_words-requires
+answer-no-words-requires c κs = omega (arith, size c, text_most (checked (c.before.before.before.before.before)))
 
-returns-2 : tie.Need-returns-2
+returns-2 : tie.Need-returns-then-question-eq0
 returns-2 c =
-    let at = c.before.before.before.before.before.before in
-    let st = start at in
+    let st = start (c.before.before.before.before.before.before) in
     let t = text_in st.args.s (four st) in
-    c.answer-no-words.ensures st.args.shape.vocabulary t st.args.documents.now (sym (size c.before))
-    ∙ ap (phrase_answer st.args.shape.vocabulary t st.args.documents.now st.args.words.now st.args.question.start) (sym (eqb-true st.args.question.length 0 c.before.before.if3.true))
-    ∙ sym (answered at ∙ kind_5 st.args.shape.vocabulary t st.args.documents.now st.args.words.now st.args.question c.before.before.before.before.if2.true)
+    c.answer_no_words.ensures st.args.shape.vocabulary t st.args.documents.now (sym (size (c.before)))
+    ∙ ap (phrase_answer st.args.shape.vocabulary t st.args.documents.now st.args.words.now st.args.question.start) (sym c.if-question-eq0.true)
+    ∙ sym (answered (c.before.before.before.before.before.before) ∙ kind_5 st.args.shape.vocabulary t st.args.documents.now st.args.words.now st.args.question c.if-question-eq5.true)
 
-slice-aggregate-node-starts : tie.Need-slice-aggregate-node-starts
+slice-aggregate-node-starts : tie.Need-slice_bounds-node_starts-end
 slice-aggregate-node-starts c = search rules
 
-node-starts-requires : tie.Need-node-starts-requires
-node-starts-requires c κs = (omega (arith, checked_most (checked c.before.before.before)), checked_total (checked c.before.before.before))
+node-starts-requires : tie.Need-node_starts-requires
+node-starts-requires c κs = (omega (arith, checked_most (checked (c.before.before.before))), checked_total (checked (c.before.before.before)))
 
-slice-aggregate-answer : tie.Need-slice-aggregate-answer
+slice-aggregate-answer : tie.Need-slice_bounds-answer-end
 slice-aggregate-answer c = search rules
 
 answer-requires : tie.Need-answer-requires
 answer-requires c κs =
-    let at = c.before.before.before.before.before.before in
-    (record { checked = checked at; nodes = c.before.before.node-starts.ensures }, (starts_are _ _ (clear at).1).ascending)
+    (record { checked = checked (c.before.before.before.before.before.before); nodes = c.node_starts.ensures }, (starts_are _ _ (clear (c.before.before.before.before.before.before)).1).ascending)
 
-returns-3 : tie.Need-returns-3
-returns-3 c = c.answer.ensures ∙ sym (answered c.before.before.before.before.before.before.before)
+returns-3 : tie.Need-returns
+returns-3 c = c.answer.ensures ∙ sym (answered (c.before.before.before.before.before.before.before))
 
-pub ask-in-documents-of-spec : {M : Type 1} → statement M
-ask-in-documents-of-spec =
+pub ask_in_documents_of_spec : {M : Type 1} → statement M
+ask_in_documents_of_spec =
     tie.close
     (tie.spec
     check-in-documents-requires

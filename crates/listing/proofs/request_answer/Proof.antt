@@ -8,47 +8,43 @@ use Rattle.listing.proofs.request_answer.Statement.{statement}
 use Rattle.listing.proofs.request_answer.Tie as tie
 
 -- past the first test the phrase is not refused
-whole : (c : tie.Else1) → phrase_refusal c.before.before.before.args.vocabulary c.before.before.before.args.words.now c.before.before.before.args.start c.before.before.before.args.count ≡ 0
-whole c = sym c.before.phrase-refusal.ensures ∙ c.if1.false
+whole : (c : tie.Else-refused-ne0) → phrase_refusal c.args.vocabulary c.args.words.now c.args.start c.args.count ≡ 0
+whole c = sym c.phrase_refusal-refused.ensures ∙ c.if-refused-ne0.false
 
-phrase-refusal-requires : tie.Need-phrase-refusal-requires
+phrase-refusal-requires : tie.Need-phrase_refusal-refused-requires
 phrase-refusal-requires c κs = search rules
 
 refused-requires : tie.Need-refused-requires
 refused-requires c κs = search rules
 
-returns : tie.Need-returns
+returns : tie.Need-returns-then-refused-ne0
 returns c =
-    let st = c.before.before.before.before in
-    let some : phrase_refusal st.args.vocabulary st.args.words.now st.args.start st.args.count ≡ 0 → ⊥ = λ e. c.before.if1.true (c.before.before.phrase-refusal.ensures ∙ e) in
-    c.refused.ensures ∙ ap refused c.before.before.phrase-refusal.ensures ∙ sym (request_phrase st.args.vocabulary st.args.words.now st.args.start st.args.count st.args.n st.args.next st.args.room some)
+    let some : phrase_refusal c.args.vocabulary c.args.words.now c.args.start c.args.count ≡ 0 → ⊥ = λ e. c.if-refused-ne0.true (c.phrase_refusal-refused.ensures ∙ e) in
+    c.refused.ensures ∙ ap refused c.phrase_refusal-refused.ensures ∙ sym (request_phrase c.args.vocabulary c.args.words.now c.args.start c.args.count c.args.n c.args.next c.args.room some)
 
-refused-requires-2 : tie.Need-refused-requires-2
+refused-requires-2 : tie.Need-refused-requires-then-n-next
 refused-requires-2 c κs = search rules
 
-returns-2 : tie.Need-returns-2
+returns-2 : tie.Need-returns-then-n-next
 returns-2 c =
-    let st = c.before.before.before.before.before in
-    c.refused2.ensures ∙ sym (request_place st.args.vocabulary st.args.words.now st.args.start st.args.count st.args.n st.args.next st.args.room (whole c.before.before) c.before.if2.true)
+    c.refused-then-n-next.ensures ∙ sym (request_place c.args.vocabulary c.args.words.now c.args.start c.args.count c.args.n c.args.next c.args.room (whole (c.before.before)) c.if-n-next.true)
 
-refused-requires-3 : tie.Need-refused-requires-3
+refused-requires-3 : tie.Need-refused-requires-then-room-eq0
 refused-requires-3 c κs = search rules
 
-returns-3 : tie.Need-returns-3
+returns-3 : tie.Need-returns-then-room-eq0
 returns-3 c =
-    let st = c.before.before.before.before.before.before in
-    c.refused3.ensures ∙ sym (request_page st.args.vocabulary st.args.words.now st.args.start st.args.count st.args.n st.args.next st.args.room (whole c.before.before.before) c.before.before.if2.false c.before.if3.true)
+    c.refused-then-room-eq0.ensures ∙ sym (request_page c.args.vocabulary c.args.words.now c.args.start c.args.count c.args.n c.args.next c.args.room (whole (c.before.before.before)) c.if-n-next.false c.if-room-eq0.true)
 
 accepted-requires : tie.Need-accepted-requires
 accepted-requires c κs = search rules
 
-returns-4 : tie.Need-returns-4
+returns-4 : tie.Need-returns
 returns-4 c =
-    let st = c.before.before.before.before.before.before in
-    c.accepted.ensures ∙ sym (request_none st.args.vocabulary st.args.words.now st.args.start st.args.count st.args.n st.args.next st.args.room (whole c.before.before.before) c.before.before.if2.false c.before.if3.false)
+    c.accepted.ensures ∙ sym (request_none c.args.vocabulary c.args.words.now c.args.start c.args.count c.args.n c.args.next c.args.room (whole (c.before.before.before)) c.if-n-next.false c.if-room-eq0.false)
 
-pub request-answer-spec : {M : Type 1} → statement M
-request-answer-spec =
+pub request_answer_spec : {M : Type 1} → statement M
+request_answer_spec =
     tie.close
     (tie.spec
     phrase-refusal-requires

@@ -39,59 +39,57 @@ fits : (c : tie.Start) → PhraseFits c.args.shape.vocabulary c.args.words.now c
 fits c = phrase_fits c.args.shape.vocabulary c.args.words.now c.args.start c.args.count (passed c).phrase
 
 -- a slice ends where a number can say it
-far : (c : tie.After-shared-slice-known6) → length c.before.before.before.before.before.before.args.words.now * 4 < 18446744073709551616
+far : (c : tie.After-shared_slice_known-6-1) → length c.args.words.now * 4 < 18446744073709551616
 far c = omega arith
 
-add-end : tie.Need-overflow-add-end
-add-end c = omega (arith, (fits c.before.before.before.before.before.before.before).inside, far c.before)
+add-end : tie.Need-overflow_add-end
+add-end c = omega (arith, (fits (c.before.before.before.before.before.before.before)).inside, far (c.before))
 
-mul-write-page : tie.Need-overflow-mul-write-page
-mul-write-page c = omega (arith, (fits c.before.before.before.before.before.before.before).inside, far c.before)
+mul-write-page : tie.Need-offset_bounds-words-start
+mul-write-page c = omega (arith, (fits (c.before.before.before.before.before.before.before)).inside, far (c.before))
 
-sub-write-page : tie.Need-overflow-sub-write-page
+sub-write-page : tie.Need-slice_bounds-write_page-count
 sub-write-page c = search rules
 
-part-write-page-start : tie.Need-slice-bounds-write-page-start
+part-write-page-start : tie.Need-slice_bounds-write_page-start
 part-write-page-start c = search rules
 
-part-write-page-end : tie.Need-slice-bounds-write-page-end
-part-write-page-end c = omega (arith, (fits c.before.before.before.before.before.before.before).inside)
+part-write-page-end : tie.Need-slice_bounds-write_page-end
+part-write-page-end c = omega (arith, (fits (c.before.before.before.before.before.before.before)).inside)
 
-write-page-requires : tie.Need-write-page-requires
+write-page-requires : tie.Need-write_page-written-requires
 unfolding phrase_in
 write-page-requires c κs =
-    let st = c.before.before.before.before.before.before.before.before.before in
-    let m : st.args.start + st.args.count - st.args.start ≡ st.args.count = omega arith in
-    let f = fits st in
-    let n : length (phrase_in st.args.words.now st.args.start st.args.count) ≡ st.args.count = part_length st.args.shape.vocabulary st.args.words.now st.args.start st.args.count f.inside in
+    let m : c.args.start + c.args.count - c.args.start ≡ c.args.count = omega arith in
+    let f = fits (c.before.before.before.before.before.before.before.before.before) in
+    let n : length (phrase_in c.args.words.now c.args.start c.args.count) ≡ c.args.count = part_length c.args.shape.vocabulary c.args.words.now c.args.start c.args.count f.inside in
     rw m (
-      checked st,
+      checked (c.before.before.before.before.before.before.before.before.before),
       omega (arith, n, f.most),
-      askable_below st.args.shape.vocabulary (phrase_in st.args.words.now st.args.start st.args.count) f.askable st.requires.3,
-      (passed st).inside,
-      (starts_are (length (text_in st.args.s (four st))) st.args.documents.now (passed st).starts).ascending,
+      askable_below c.args.shape.vocabulary (phrase_in c.args.words.now c.args.start c.args.count) f.askable c.requires.3,
+      (passed (c.before.before.before.before.before.before.before.before.before)).inside,
+      (starts_are (length (text_in c.args.s (four (c.before.before.before.before.before.before.before.before.before)))) c.args.documents.now (passed (c.before.before.before.before.before.before.before.before.before)).starts).ascending,
     )
 
 accepted-requires : tie.Need-accepted-requires
 accepted-requires c κs = search rules
 
-same_length : tie.Need-same-length
+same_length : tie.Need-shape_of-lines
 same_length c = search rules
 
 returns : tie.Need-returns
 unfolding phrase_in
 returns c =
-    let st = c.before.before.before.before.before.before.before.before.before.before.before.before.before in
-    let m : st.args.start + st.args.count - st.args.start ≡ st.args.count = omega arith in
-    let t = text_in st.args.s (four st) in
-    let e : page_over (stands_in st.args.documents.now t (take (st.args.start + st.args.count - st.args.start) (drop st.args.start st.args.words.now))) (length t) (length st.args.lines.now) st.args.state.next false ≡ call_page (call_at st) st.args.state =
-    rw m (sym (page_of_state (call_at st) st.args.state false st.requires.2)) in
+    let m : c.args.start + c.args.count - c.args.start ≡ c.args.count = omega arith in
+    let t = text_in c.args.s (four (c.before.before.before.before.before.before.before.before.before.before.before.before.before)) in
+    let e : page_over (stands_in c.args.documents.now t (take (c.args.start + c.args.count - c.args.start) (drop c.args.start c.args.words.now))) (length t) (length c.args.lines.now) c.args.state.next false ≡ call_page (call_at (c.before.before.before.before.before.before.before.before.before.before.before.before.before)) c.args.state =
+    rw m (sym (page_of_state (call_at (c.before.before.before.before.before.before.before.before.before.before.before.before.before)) c.args.state false c.requires.2)) in
     rw c.accepted.ensures
-    (page_written (call_at st) st.args.state (passed st).answer_is c.before.before.before.write-page.result _ (c.before.before.before.write-page.ensures.0 ∙ ap written_of e)
-    (c.before.before.before.write-page.ensures.1 ∙ ap (λ (x : HitPage). front x.found st.args.lines.now) e))
+    (page_written (call_at (c.before.before.before.before.before.before.before.before.before.before.before.before.before)) c.args.state (passed (c.before.before.before.before.before.before.before.before.before.before.before.before.before)).answer_is c.write_page-written.result _ (c.write_page-written.ensures.0 ∙ ap written_of e)
+    (c.write_page-written.ensures.1 ∙ ap (λ (x : HitPage). front x.found c.args.lines.now) e))
 
-pub written-page-spec : {M : Type 1} → statement M
-written-page-spec =
+pub written_page_spec : {M : Type 1} → statement M
+written_page_spec =
     tie.close
     (tie.spec
     add-end

@@ -23,60 +23,56 @@ abbrev four : tie.Start → Arrays
 four c = arrays c.args.lengths.now c.args.bytes.now c.args.superblocks.now c.args.blocks.now
 
 -- past the first test the slices have passed the check, and the starts keep the rules
-module _ (c : tie.Else1) where
+module _ (c : tie.Else-checked-ne0) where
   abbrev start : tie.Start
   start = c.before.before.before.before.before.before.before.before.before
 
   clear : (check_answer start.args.s start.args.shape (four start) ≡ accepted 0) × (are_starts (length (text_in start.args.s (four start))) start.args.documents.now ≡ true)
-  clear = check_in_clear start.args.s start.args.shape (four start) start.args.documents.now (ap (λ (r : Answer). r.refusal) (sym c.before.before.check-in-documents.ensures) ∙ c.if1.false)
+  clear = check_in_clear start.args.s start.args.shape (four start) start.args.documents.now (ap (λ (r : Answer). r.refusal) (sym c.check_in_documents-checked.ensures) ∙ c.if-checked-ne0.false)
 
   checked : Checked start.args.s start.args.shape (four start)
-  checked = accepted_checked start.args.s start.pre.0 start.args.shape (four start) (ap (λ (r : Answer). r.refusal) clear.0)
+  checked = accepted_checked start.args.s start.requires.0 start.args.shape (four start) (ap (λ (r : Answer). r.refusal) clear.0)
 
-check-in-documents-requires : tie.Need-check-in-documents-requires
+check-in-documents-requires : tie.Need-check_in_documents-checked-requires
 check-in-documents-requires c κs = search rules
 
-returns : tie.Need-returns
+returns : tie.Need-returns-then-checked-ne0
 returns c =
-    let st = c.before.before.before.before.before.before.before.before.before in
-    let e = c.before.before.check-in-documents.ensures in
-    (e ∙ sym (sheet_checked st.args.s st.args.shape (four st) st.args.documents.now st.args.asked st.args.room (λ z. c.if1.true (ap (λ (r : Answer). r.refusal) e ∙ z))), λ z. absurd (c.if1.true z))
+    let e = c.check_in_documents-checked.ensures in
+    (e ∙ sym (sheet_checked c.args.s c.args.shape (four (c.before.before.before.before.before.before.before.before.before)) c.args.documents.now c.args.asked c.args.room (λ z. c.if-checked-ne0.true (ap (λ (r : Answer). r.refusal) e ∙ z))), λ z. absurd (c.if-checked-ne0.true z))
 
 refused-requires : tie.Need-refused-requires
 refused-requires c κs = search rules
 
-returns-2 : tie.Need-returns-2
+returns-2 : tie.Need-returns-then-room-asked
 returns-2 c =
-    let at = c.before.before in
-    let st = start at in (
-      c.refused.ensures ∙ sym (sheet_short st.args.s st.args.shape (four st) st.args.documents.now st.args.asked st.args.room (clear at).0 (clear at).1 (omega (arith, c.before.if2.true))),
+    let st = start (c.before.before) in (
+      c.refused.ensures ∙ sym (sheet_short st.args.s st.args.shape (four st) st.args.documents.now st.args.asked st.args.room (clear (c.before.before)).0 (clear (c.before.before)).1 (omega (arith, c.if-room-asked.true))),
       λ e. absurd (omega (arith, ap (λ (r : Answer). r.refusal) c.refused.ensures, e)),
     )
 
-node-starts-requires : tie.Need-node-starts-requires
+node-starts-requires : tie.Need-node_starts-requires
 node-starts-requires c κs =
-    let at = c.before.before in
-    (omega (arith, checked_most (checked at)), checked_total (checked at))
+    (omega (arith, checked_most (checked (c.before.before))), checked_total (checked (c.before.before)))
 
-mul-accepted : tie.Need-overflow-mul-accepted
+mul-accepted : tie.Need-overflow_mul-asked
 mul-accepted c = search rules
 
 accepted-requires : tie.Need-accepted-requires
 accepted-requires c κs = search rules
 
-same_length : tie.Need-same-length
+same_length : tie.Need-shape_of-starts
 same_length c = search rules
 
-returns-3 : tie.Need-returns-3
+returns-3 : tie.Need-returns
 returns-3 c =
-    let at = c.before.before.before.before.before.before in
-    let st = start at in (
-      c.accepted.ensures ∙ sym (sheet_accepted st.args.s st.args.shape (four st) st.args.documents.now st.args.asked st.args.room (clear at).0 (clear at).1 (omega (arith, c.before.before.before.before.before.if2.false))),
-      λ e. ((starts_are (length (text_in st.args.s (four st))) st.args.documents.now (clear at).1).ascending, c.before.before.before.node-starts.ensures),
+    let st = start (c.before.before.before.before.before.before) in (
+      c.accepted.ensures ∙ sym (sheet_accepted st.args.s st.args.shape (four st) st.args.documents.now st.args.asked st.args.room (clear (c.before.before.before.before.before.before)).0 (clear (c.before.before.before.before.before.before)).1 (omega (arith, c.if-room-asked.false))),
+      λ e. ((starts_are (length (text_in st.args.s (four st))) st.args.documents.now (clear (c.before.before.before.before.before.before)).1).ascending, c.node_starts.ensures),
     )
 
-pub prepare-spec : {M : Type 1} → statement M
-prepare-spec =
+pub prepare_spec : {M : Type 1} → statement M
+prepare_spec =
     tie.close
     (tie.spec
     check-in-documents-requires

@@ -33,128 +33,123 @@ left st r e h =
     sym (summary_untouched st.args.s st.args.shape (four st) st.args.documents.now st.args.words.now st.args.start st.args.count st.args.counts.now
     (ap is_accepted (sym e) ∙ ne_eqb r.refusal 0 h))
 
-check-in-documents-requires : tie.Need-check-in-documents-requires
+check-in-documents-requires : tie.Need-check_in_documents-checked-requires
 check-in-documents-requires c κs = search rules
 
-returns : tie.Need-returns
+returns : tie.Need-returns-then-checked-ne0
 returns c =
-    let st = c.before.before.before.before.before.before.before.before.before.before in
-    let e = c.before.before.check-in-documents.ensures in
-    let r = e ∙ sym (summary_checked st.args.s st.args.shape (four st) st.args.documents.now st.args.words.now st.args.start st.args.count (length st.args.counts.now) (λ z. c.if1.true (ap (λ (x : Answer). x.refusal) e ∙ z))) in
-    (r, left st _ r c.if1.true)
+    let e = c.check_in_documents-checked.ensures in
+    let r = e ∙ sym (summary_checked c.args.s c.args.shape (four (c.before.before.before.before.before.before.before.before.before.before)) c.args.documents.now c.args.words.now c.args.start c.args.count (length c.args.counts.now) (λ z. c.if-checked-ne0.true (ap (λ (x : Answer). x.refusal) e ∙ z))) in
+    (r, left (c.before.before.before.before.before.before.before.before.before.before) _ r c.if-checked-ne0.true)
 
 -- past the first test the slices have passed the check, and the starts keep the rules
-checked : (c : tie.Else1) → let st = c.before.before.before.before.before.before.before.before.before.before in (check_answer_in st.args.s st.args.shape (four st) st.args.documents.now).refusal ≡ 0
-checked c = ap (λ (x : Answer). x.refusal) (sym c.before.before.check-in-documents.ensures) ∙ c.if1.false
+checked : (c : tie.Else-checked-ne0) → (check_answer_in c.args.s c.args.shape (four (c.before.before.before.before.before.before.before.before.before.before)) c.args.documents.now).refusal ≡ 0
+checked c = ap (λ (x : Answer). x.refusal) (sym c.check_in_documents-checked.ensures) ∙ c.if-checked-ne0.false
 
-summary-request-requires : tie.Need-summary-request-requires
+summary-request-requires : tie.Need-summary_request-request-requires
 summary-request-requires c κs = search rules
 
-returns-2 : tie.Need-returns-2
+returns-2 : tie.Need-returns-then-request-ne0
 returns-2 c =
-    let st = c.before.before.before.before.before.before.before.before.before.before.before.before.before in
-    let e = c.before.before.summary-request.ensures in
-    let r = e ∙ sym (summary_asked st.args.s st.args.shape (four st) st.args.documents.now st.args.words.now st.args.start st.args.count (length st.args.counts.now) (checked c.before.before.before) (λ z. c.if2.true (ap (λ (x : Answer). x.refusal) e ∙ z))) in
-    (r, left st _ r c.if2.true)
+    let e = c.summary_request-request.ensures in
+    let r = e ∙ sym (summary_asked c.args.s c.args.shape (four (c.before.before.before.before.before.before.before.before.before.before.before.before.before)) c.args.documents.now c.args.words.now c.args.start c.args.count (length c.args.counts.now) (checked (c.before.before.before)) (λ z. c.if-request-ne0.true (ap (λ (x : Answer). x.refusal) e ∙ z))) in
+    (r, left (c.before.before.before.before.before.before.before.before.before.before.before.before.before) _ r c.if-request-ne0.true)
 
 -- a slice ends where a number can say it
-far : (c : tie.After-shared-slice-known6) → length c.before.before.before.before.before.before.args.words.now * 4 < 18446744073709551616
+far : (c : tie.After-shared_slice_known-6-1) → length c.args.words.now * 4 < 18446744073709551616
 far c = omega arith
 
 -- past the second it is accepted
-module _ (c : tie.Else2) where
+module _ (c : tie.Else-request-ne0) where
   abbrev start : tie.Start
   start = c.before.before.before.before.before.before.before.before.before.before.before.before.before
 
   answered : summary_answer start.args.s start.args.shape (four start) start.args.documents.now start.args.words.now start.args.start start.args.count (length start.args.counts.now) ≡ accepted (length start.args.documents.now)
   answered =
-      summary_accepted start.args.s start.args.shape (four start) start.args.documents.now start.args.words.now start.args.start start.args.count (length start.args.counts.now) (checked c.before.before.before)
-      (ap (λ (x : Answer). x.refusal) (sym c.before.before.summary-request.ensures) ∙ c.if2.false)
+      summary_accepted start.args.s start.args.shape (four start) start.args.documents.now start.args.words.now start.args.start start.args.count (length start.args.counts.now) (checked (c.before.before.before))
+      (ap (λ (x : Answer). x.refusal) (sym c.summary_request-request.ensures) ∙ c.if-request-ne0.false)
 
   passed : Summarised start.args.s start.args.shape (four start) start.args.documents.now start.args.words.now start.args.start start.args.count (length start.args.counts.now)
   passed = summarised start.args.s start.args.shape (four start) start.args.documents.now start.args.words.now start.args.start start.args.count (length start.args.counts.now) (ap is_accepted answered)
 
 -- a phrase with an absent word is counted in no document
-has-absent-requires : tie.Need-has-absent-requires
+has-absent-requires : tie.Need-has_absent-requires
 has-absent-requires c κs = (passed c).inside
 
-clear-counts-requires : tie.Need-clear-counts-requires
-clear-counts-requires c κs = omega (arith, (passed c.before.before.before).enough)
+clear-counts-requires : tie.Need-clear_counts-requires
+clear-counts-requires c κs = omega (arith, (passed (c.before.before.before)).enough)
 
 accepted-requires : tie.Need-accepted-requires
 accepted-requires c κs = search rules
 
-same_length : tie.Need-same-length
+same_length : tie.Need-shape_of-counts-then-has_absent
 same_length c = search rules
 
-returns-3 : tie.Need-returns-3
+returns-3 : tie.Need-returns-then-has_absent
 unfolding summary_exit filled
 returns-3 c =
-    let x = c.before.before.before.before.before.before.before in
-    let st = start x in
+    let st = start (c.before.before.before.before.before.before.before) in
     let phrase = phrase_in st.args.words.now st.args.start st.args.count in
     let t = text_in st.args.s (four st) in
-    let at = absent_at st.args.shape.vocabulary phrase (sym c.before.before.before.before.before.before.has-absent.ensures ∙ c.before.before.before.before.before.if3.true) in
-    let checked-index = accepted_checked st.args.s st.pre st.args.shape (four st) (ap (λ (y : Answer). y.refusal) (passed x).passed) in
+    let at = absent_at st.args.shape.vocabulary phrase (sym c.has_absent.ensures ∙ c.if-has_absent.true) in
+    let checked-index = accepted_checked st.args.s st.requires st.args.shape (four st) (ap (λ (y : Answer). y.refusal) (passed (c.before.before.before.before.before.before.before)).passed) in
     let absent = absent_words st.args.shape.vocabulary st.args.documents.now t (ranks_below_lem checked-index) in (
-      c.accepted.ensures ∙ sym (answered x),
-      c.before.before.before.clear-counts.ensures
+      c.accepted.ensures ∙ sym (answered (c.before.before.before.before.before.before.before)),
+      c.clear_counts.ensures
           ∙ ap (λ (counts : List ℕ). front counts st.args.counts.now) (sym (absent.uncounted phrase at.0 at.1 at.2))
-          ∙ sym (rw (answered x)),
+          ∙ sym (rw (answered (c.before.before.before.before.before.before.before))),
     )
 
-add-end : tie.Need-overflow-add-end
-add-end c = omega (arith, (passed c.before.before).inside, far c.before.before.before.before.before.before.before.before.before)
+add-end : tie.Need-overflow_add-end
+add-end c = omega (arith, (passed (c.before.before)).inside, far (c.before.before.before.before.before.before.before.before.before))
 
-mul-write-summary : tie.Need-overflow-mul-write-summary
-mul-write-summary c = omega (arith, (passed c.before.before).inside, far c.before.before.before.before.before.before.before.before.before)
+mul-write-summary : tie.Need-offset_bounds-words-start
+mul-write-summary c = omega (arith, (passed (c.before.before)).inside, far (c.before.before.before.before.before.before.before.before.before))
 
-sub-write-summary : tie.Need-overflow-sub-write-summary
+sub-write-summary : tie.Need-slice_bounds-write_summary-count
 sub-write-summary c = search rules
 
-part-write-summary-start : tie.Need-slice-bounds-write-summary-start
+part-write-summary-start : tie.Need-slice_bounds-write_summary-start
 part-write-summary-start c = search rules
 
-part-write-summary-end : tie.Need-slice-bounds-write-summary-end
-part-write-summary-end c = omega (arith, (passed c.before.before).inside)
+part-write-summary-end : tie.Need-slice_bounds-write_summary-end
+part-write-summary-end c = omega (arith, (passed (c.before.before)).inside)
 
-write-summary-requires : tie.Need-write-summary-requires
+write-summary-requires : tie.Need-write_summary-requires
 unfolding phrase_in
 write-summary-requires c κs =
-    let x = c.before.before.before.before in
-    let st = start x in
+    let st = start (c.before.before.before.before) in
     let phrase = phrase_in st.args.words.now st.args.start st.args.count in
     let m : st.args.start + st.args.count - st.args.start ≡ st.args.count = omega arith in
-    let n : length phrase ≡ st.args.count = part_length st.args.shape.vocabulary st.args.words.now st.args.start st.args.count (passed x).inside in
+    let n : length phrase ≡ st.args.count = part_length st.args.shape.vocabulary st.args.words.now st.args.start st.args.count (passed (c.before.before.before.before)).inside in
     rw m (
-      accepted_checked st.args.s st.pre st.args.shape (four st) (ap (λ (y : Answer). y.refusal) (passed x).passed),
-      omega (arith, n, (passed x).some),
-      omega (arith, n, (passed x).most),
-      askable_below st.args.shape.vocabulary phrase (passed x).askable (sym c.before.before.before.has-absent.ensures ∙ c.before.before.if3.false),
-      (passed x).rules,
-      (passed x).enough,
+      accepted_checked st.args.s st.requires st.args.shape (four st) (ap (λ (y : Answer). y.refusal) (passed (c.before.before.before.before)).passed),
+      omega (arith, n, (passed (c.before.before.before.before)).some),
+      omega (arith, n, (passed (c.before.before.before.before)).most),
+      askable_below st.args.shape.vocabulary phrase (passed (c.before.before.before.before)).askable (sym c.has_absent.ensures ∙ c.if-has_absent.false),
+      (passed (c.before.before.before.before)).rules,
+      (passed (c.before.before.before.before)).enough,
     )
 
 accepted-requires-2 : tie.Need-accepted-requires-2
 accepted-requires-2 c κs = search rules
 
-same-length-2 : tie.Need-same-length-2
+same-length-2 : tie.Need-shape_of-counts
 same-length-2 c = search rules
 
-returns-4 : tie.Need-returns-4
+returns-4 : tie.Need-returns
 unfolding phrase_in summary_exit filled
 returns-4 c =
-    let x = c.before.before.before.before.before.before.before.before in
-    let st = start x in
+    let st = start (c.before.before.before.before.before.before.before.before) in
     let m : st.args.start + st.args.count - st.args.start ≡ st.args.count = omega arith in (
-      c.accepted2.ensures ∙ sym (answered x),
-      c.before.before.before.write-summary.ensures
+      c.accepted-2.ensures ∙ sym (answered (c.before.before.before.before.before.before.before.before)),
+      c.write_summary.ensures
           ∙ ap (λ (k : ℕ). front (counts_by_document st.args.documents.now (text_in st.args.s (four st)) (take k (drop st.args.start st.args.words.now))) st.args.counts.now) m
-          ∙ sym (rw (answered x)),
+          ∙ sym (rw (answered (c.before.before.before.before.before.before.before.before))),
     )
 
-pub summary-of-spec : {M : Type 1} → statement M
-summary-of-spec =
+pub summary_of_spec : {M : Type 1} → statement M
+summary_of_spec =
     tie.close
     (tie.spec
     check-in-documents-requires

@@ -10,54 +10,50 @@ use Rattle.summaries.proofs.summary_request.Statement.{statement}
 use Rattle.summaries.proofs.summary_request.Tie as tie
 
 -- past the first test there is a word
-some : (c : tie.Else1) → 1 ≤ c.before.before.args.count
-some c = omega (arith, c.if1.false)
+some : (c : tie.Else-count-eq0) → 1 ≤ c.args.count
+some c = omega (arith, c.if-count-eq0.false)
 
 -- past the second the phrase is not refused
-whole : (c : tie.Else2) → let st = c.before.before.before.before in phrase_refusal st.args.vocabulary st.args.words.now st.args.start st.args.count ≡ 0
-whole c = sym c.before.phrase-refusal.ensures ∙ c.if2.false
+whole : (c : tie.Else-refused-ne0) → phrase_refusal c.args.vocabulary c.args.words.now c.args.start c.args.count ≡ 0
+whole c = sym c.phrase_refusal-refused.ensures ∙ c.if-refused-ne0.false
 
 refused-requires : tie.Need-refused-requires
 refused-requires c κs = search rules
 
-returns : tie.Need-returns
+returns : tie.Need-returns-then-count-eq0
 returns c =
-    let st = c.before.before.before in
-    c.refused.ensures ∙ sym (request_no_words st.args.vocabulary st.args.words.now st.args.start st.args.count st.args.documents st.args.room c.before.if1.true)
+    c.refused.ensures ∙ sym (request_no_words c.args.vocabulary c.args.words.now c.args.start c.args.count c.args.documents c.args.room c.if-count-eq0.true)
 
-phrase-refusal-requires : tie.Need-phrase-refusal-requires
+phrase-refusal-requires : tie.Need-phrase_refusal-refused-requires
 phrase-refusal-requires c κs = search rules
 
-refused-requires-2 : tie.Need-refused-requires-2
+refused-requires-2 : tie.Need-refused-requires-then-refused-ne0
 refused-requires-2 c κs = search rules
 
-returns-2 : tie.Need-returns-2
+returns-2 : tie.Need-returns-then-refused-ne0
 returns-2 c =
-    let st = c.before.before.before.before.before in
-    let e = c.before.before.phrase-refusal.ensures in
-    c.refused2.ensures ∙ ap refused e
-    ∙ sym (request_phrase st.args.vocabulary st.args.words.now st.args.start st.args.count st.args.documents st.args.room (some c.before.before.before) (λ z. c.before.if2.true (e ∙ z)))
+    let e = c.phrase_refusal-refused.ensures in
+    c.refused-then-refused-ne0.ensures ∙ ap refused e
+    ∙ sym (request_phrase c.args.vocabulary c.args.words.now c.args.start c.args.count c.args.documents c.args.room (some (c.before.before.before)) (λ z. c.if-refused-ne0.true (e ∙ z)))
 
-refused-requires-3 : tie.Need-refused-requires-3
+refused-requires-3 : tie.Need-refused-requires-then-room-documents
 refused-requires-3 c κs = search rules
 
-returns-3 : tie.Need-returns-3
+returns-3 : tie.Need-returns-then-room-documents
 returns-3 c =
-    let st = c.before.before.before.before.before.before in
-    c.refused3.ensures
-    ∙ sym (request_short st.args.vocabulary st.args.words.now st.args.start st.args.count st.args.documents st.args.room (some c.before.before.before.before) (whole c.before.before) c.before.if3.true)
+    c.refused-then-room-documents.ensures
+    ∙ sym (request_short c.args.vocabulary c.args.words.now c.args.start c.args.count c.args.documents c.args.room (some (c.before.before.before.before)) (whole (c.before.before)) c.if-room-documents.true)
 
 accepted-requires : tie.Need-accepted-requires
 accepted-requires c κs = search rules
 
-returns-4 : tie.Need-returns-4
+returns-4 : tie.Need-returns
 returns-4 c =
-    let st = c.before.before.before.before.before.before in
     c.accepted.ensures
-    ∙ sym (request_none st.args.vocabulary st.args.words.now st.args.start st.args.count st.args.documents st.args.room (some c.before.before.before.before) (whole c.before.before) c.before.if3.false)
+    ∙ sym (request_none c.args.vocabulary c.args.words.now c.args.start c.args.count c.args.documents c.args.room (some (c.before.before.before.before)) (whole (c.before.before)) c.if-room-documents.false)
 
-pub summary-request-spec : {M : Type 1} → statement M
-summary-request-spec =
+pub summary_request_spec : {M : Type 1} → statement M
+summary_request_spec =
     tie.close
     (tie.spec
     refused-requires

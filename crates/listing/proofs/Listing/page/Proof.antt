@@ -20,16 +20,16 @@ four c = arrays c.args.lengths.now c.args.bytes.now c.args.superblocks.now c.arg
 closing_128 : Closing 128
 closing_128 = search rules
 
-slice-aggregate-one-start : tie.Need-slice-aggregate-one-start
+slice-aggregate-one-start : tie.Need-slice_bounds-one_start-end
 slice-aggregate-one-start c = search rules
 
-one-start-requires : tie.Need-one-start-requires
+one-start-requires : tie.Need-one_start-requires
 one-start-requires c κs = search rules
 
-page-of-requires : tie.Need-page-of-requires
+page-of-requires : tie.Need-page_of-requires
 page-of-requires c κs = search rules
 
-same_length : tie.Need-same-length
+same_length : tie.Need-shape_of-lines
 same_length c = search rules
 
 -- the page with some starts, of the call that came
@@ -38,14 +38,18 @@ page_with c documents = page_of (call_of 128 c.args.shape (four c) documents c.a
 
 returns : tie.Need-returns
 returns c =
-    let st = c.before.before.before.before.before.before.before.before.before.before.before.before in
-    let p = c.before.before.page-of.ensures in
-    let e : page_with st c.before.before.before.before.one-start.result.now ≡ page_with st (one_start (length (text_in 128 (four st)))) =
-    ap (page_with st) c.before.before.before.before.one-start.ensures
-    ∙ page_by_root 128 closing_128 st.args.shape (four st) st.args.words.now st.args.start st.args.count st.args.lines.now st.args.self in
+    let p = c.page_of.ensures in
+    let e : page_with (c.before.before.before.before.before.before.before.before.before.before.before.before) c.one_start.result.now ≡ page_with (c.before.before.before.before.before.before.before.before.before.before.before.before) (one_start (length (text_in 128 (four (c.before.before.before.before.before.before.before.before.before.before.before.before))))) =
+    ap (page_with (c.before.before.before.before.before.before.before.before.before.before.before.before)) c.one_start.ensures
+    ∙ page_by_root 128 closing_128 c.args.shape (four (c.before.before.before.before.before.before.before.before.before.before.before.before)) c.args.words.now c.args.start c.args.count c.args.lines.now c.args.self in
     (p.0 ∙ ap (λ (x : PageResult). x.page) e, p.1 ∙ ap (λ (x : PageResult). x.lines) e)
 
-pub page-spec : {M : Type 1} → statement M
-page-spec =
+pub page_spec : {M : Type 1} → statement M
+page_spec =
     tie.close
-    (tie.spec slice-aggregate-one-start one-start-requires page-of-requires same_length returns)
+    (tie.spec
+    slice-aggregate-one-start
+    one-start-requires
+    page-of-requires
+    same_length
+    returns)
