@@ -1,4 +1,1 @@
-pub mod Rules
-pub mod Again
 pub mod Published
-pub mod Table
