@@ -7,14 +7,19 @@ use Rattle.small_indexes.proofs.Lent.{lent_least}
 use Rattle.small_indexes.proofs.front_blocks.Statement.{statement}
 use Rattle.small_indexes.proofs.front_blocks.Tie as tie
 
-least-requires : tie.Need-least-requires
+least-requires : tie.Need-least-count-requires
 least-requires c κs = search rules
 
-slice-aggregate-result : tie.Need-slice-aggregate-result
-slice-aggregate-result c = sym (length-take-le _ _ (omega (arith, c.before.least.ensures)))
+slice-aggregate-result : tie.Need-slice_bounds-result-end
+slice-aggregate-result c = sym (length-take-le _ _ (omega (arith, c.least-count.ensures)))
 
 returns : tie.Need-returns
-returns c = lent_least _ _ _ c.before.least.ensures
+returns c = lent_least _ _ _ c.least-count.ensures
 
-pub front-blocks-spec : {M : Type 1} → statement M
-front-blocks-spec = tie.close (tie.spec least-requires slice-aggregate-result returns)
+pub front_blocks_spec : {M : Type 1} → statement M
+front_blocks_spec =
+    tie.close
+    (tie.spec
+    least-requires
+    slice-aggregate-result
+    returns)

@@ -4,17 +4,23 @@ use mathlib.Core.Path.{◌∙◌}
 use Rattle.small_indexes.proofs.SmallIndex.of.Statement.{statement}
 use Rattle.small_indexes.proofs.SmallIndex.of.Tie as tie
 
-shape-of-requires : tie.Need-shape-of-requires
+shape-of-requires : tie.Need-shape_of-requires
 shape-of-requires c κs = search rules
 
-lent-sizes-requires : tie.Need-lent-sizes-requires
+lent-sizes-requires : tie.Need-lent_sizes-requires
 lent-sizes-requires c κs = search rules
 
 built-requires : tie.Need-built-requires
 built-requires c κs = search rules
 
 returns : tie.Need-returns
-returns c = c.built.ensures ∙ rw (c.before.before.shape_of.ensures, c.before.lent-sizes.ensures)
+returns c = c.built.ensures ∙ rw (c.shape_of.ensures, c.lent_sizes.ensures)
 
 pub of_spec : {M : Type 1} → statement M
-of_spec = tie.close (tie.spec shape-of-requires lent-sizes-requires built-requires returns)
+of_spec =
+    tie.close
+    (tie.spec
+    shape-of-requires
+    lent-sizes-requires
+    built-requires
+    returns)

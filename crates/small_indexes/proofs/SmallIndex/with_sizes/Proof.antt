@@ -6,11 +6,15 @@ use Rattle.small_indexes.specs.Lent.{resized}
 use Rattle.small_indexes.proofs.SmallIndex.with_sizes.Statement.{statement}
 use Rattle.small_indexes.proofs.SmallIndex.with_sizes.Tie as tie
 
-lent-sizes-requires : tie.Need-lent-sizes-requires
+lent-sizes-requires : tie.Need-lent_sizes-self-requires
 lent-sizes-requires c κs = search rules
 
 returns : tie.Need-returns
-returns c = ap (λ (sizes : LentSizes). resized sizes c.before.args.self) c.lent-sizes.ensures
+returns c = ap (λ (sizes : LentSizes). resized sizes c.args.self) c.lent_sizes-self.ensures
 
-pub with-sizes-spec : {M : Type 1} → statement M
-with-sizes-spec = tie.close (tie.spec lent-sizes-requires returns)
+pub with_sizes_spec : {M : Type 1} → statement M
+with_sizes_spec =
+    tie.close
+    (tie.spec
+    lent-sizes-requires
+    returns)
