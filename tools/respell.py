@@ -1,11 +1,14 @@
 #!/usr/bin/env python3
-"""Brings the repository's own definitions and lemmas to snake case, by the table respelled.tsv beside this script.
+"""Brings what port.py leaves to today's spelling: the repository's own definitions and lemmas to snake case, by the table respelled.tsv
+beside this script, the texts of must-fail edits, and the head and the clauses of sources.
 
 usage: tools/respell.py [FOLDER]     in a checkout in which port.py has run, once
 
-A row has an old name, a new one, and where it is written anew: `everywhere`, or `name`, which leaves out what follows a dot and
-the parts of a path. Proofs, specs, clauses, must-fail edits and the words in back quotes of documents are turned. Functions of
-src/, exported names, strings, inputs and outputs keep theirs. A second run changes nothing.
+A row of the table has an old name, a new one, and where it is written anew: `everywhere`, or `name`, which leaves out what follows a
+dot and the parts of a path. Proofs, specs, clauses, must-fail edits and the words in back quotes of documents are turned. Functions
+of src/, exported names, strings, inputs and outputs keep theirs. In a source the ghost value `a`, which an equation of a `requires`
+fixes to the four lent slices, becomes a `let` of each clause, as the kit's let_ghosts.py writes it; plain structs are `Copy`, as every
+struct was; and the root file has the line that lets the check try its tactics. A second run changes nothing.
 """
 
 import glob
@@ -44,6 +47,42 @@ def comments_apart(text, mark, code, comment):
     return "\n".join(out)
 
 
+SLICES = "arrays lengths.now bytes.now superblocks.now blocks.now"
+GHOST = re.compile(r"    ghost a: \{ Arrays \}\n    requires \w+ \{ " + re.escape(SLICES) + r" ≡ a \}\n((?:    [^\n]*\n)+?)(?=\{\n)")
+CLAUSE = re.compile(r"^    (requires|ensures)(?: \w+)? \{ (?=(?:(?!^    (?:requires|ensures)\b).)*?(?<![\w.'])a(?![\w']))", re.M | re.S)
+
+
+def source(text):
+    """The clauses and the head of a source."""
+    let = f"let a : Arrays = {SLICES} in "
+    text = GHOST.sub(lambda m: CLAUSE.sub(lambda c: f"    {c.group(1)} {{ {let}", m.group(1)), text)
+    text = text.replace("    requires ready { let a : Arrays", "    requires { let a : Arrays")
+    return re.sub(r"(?m)^#\[derive\(Drop\)\]$", "#[derive(Clone, Copy)]", text)
+
+
+def headed(text):
+    """A root file with the line that lets the check try its tactics, behind its first comment."""
+    if "#![tactic(auto)]" in text:
+        return text
+    lines = text.split("\n")
+    at = next(i for i, line in enumerate(lines) if not line.startswith("//"))
+    return "\n".join(lines[:at] + ["#![tactic(auto)]", ""] + lines[at:])
+
+
+def edit(text):
+    """The text of an edit that speaks antt in the older spelling."""
+    text = re.sub(r"now \((\w+) \.entry\)", r"\1.now", text)
+    text = re.sub(r"\((\w+\.now)\)", r"\1", text)
+    for old, new in (("getD", "get_or"), ("countOf", "count_of"), ("negℤ", "neg_ℤ"), ("List·Memᴰ", "Memᴰ"), ("·specs.specs", ".specs"), ("Rattle·", "Rattle.")):
+        text = text.replace(old, new)
+    text = re.sub(r"([\w)»\]]) \.([A-Za-z«])", r"\1.\2", text)
+    text = re.sub(r"\((\w+(?:\.\w+)+)\)", r"\1", text)
+    text = re.sub(r"(?<![\w◌])_([^\w\s,}{]+)_(?!\w)", r"◌\1◌", text)
+    for _ in range(4):
+        text = re.sub(r"\b([a-z][a-z0-9_]*)([A-Z])(?=[a-z])", lambda m: m.group(1) + "_" + m.group(2).lower(), text)
+    return text
+
+
 def main(root):
     everywhere, name = table()
     camel = {old: new for old, new in everywhere.items() if re.search("[a-z0-9][A-Z]", old)}
@@ -59,9 +98,12 @@ def main(root):
         if inside.startswith("crates/") and path.endswith(".antt"):
             how = lambda it: comments_apart(it, "--", code, said)
         elif inside.startswith("crates/") and path.endswith(".rt"):
-            how = lambda it: comments_apart(it, "//", words, said)
+            root_file = path.endswith(("/src/lib.rt", "/src/main.rt"))
+            how = lambda it: (headed if root_file else str)(source(comments_apart(it, "//", words, said)))
         elif inside.startswith("crates/") and path.endswith(".edit"):
-            how = lambda it: "\n".join(said(l) if l.startswith("#") or l.startswith("file:") else code(l) for l in it.split("\n"))
+            antt = "file: specs/" in open(path, encoding="utf-8").read()
+            turn = lambda line: line[:5] + (edit(code(line[5:])) if antt or " ≡ " in line or "now (" in line or "getD" in line else code(line[5:]))
+            how = lambda it: "\n".join(turn(l) if l[:5] in ("old: ", "new: ") else said(l) for l in it.split("\n"))
         elif path.endswith(".md") and not inside.startswith("docs/PORT"):
             how = quoted
         else:

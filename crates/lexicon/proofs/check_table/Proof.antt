@@ -1,7 +1,6 @@
 -- `lexicon::check_table` meets its contract: refusal 18, or 0. Assumes nothing.
 use mathlib.Core.Path.{sym, ◌∙◌}
 use borrow.Author.Rules.{rules}
-use borrow.Author.Tests.{not-true, not-false}
 use Rattle.base.specs.Answers.{accepted}
 use Rattle.lexicon.specs.Tables.{table_answer}
 use Rattle.lexicon.proofs.Tables.{table_broken, table_kept}

@@ -3,7 +3,6 @@ use Prim.Native.Nat.{◌-◌, ◌≤◌}
 use mathlib.Core.Path.{sym, ◌∙◌}
 use native.Mathlib.Omega.{arith}
 use borrow.Author.Rules.{rules}
-use borrow.Author.Tests.{not-true, not-false}
 use Rattle.lexicon.proofs.Entries.{Seen, seen_first, seen_next, seen_all, seen_broken}
 use Rattle.lexicon.proofs.entries_pass.Statement.{statement}
 use Rattle.lexicon.proofs.entries_pass.Tie as tie
