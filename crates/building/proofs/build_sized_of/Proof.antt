@@ -2,7 +2,6 @@
 -- gives. Assumes nothing.
 use mathlib.Core.Path.{◌≡◌, sym, ap, ◌∙◌}
 use borrow.Author.Rules.{rules}
-use borrow.Author.Tests.{not-true, not-false}
 use Rattle.index.specs.Arrays.{Arrays, arrays}
 use Rattle.index.specs.Entries.{build_answer, build_exit}
 use Rattle.measuring.specs.Sizes.{sizes_of, same_sizes, build_sized_answer, build_sized_exit}

@@ -1,6 +1,5 @@
 -- `checking::check_of` meets its contract: the limits decide, and then passing. Assumes nothing.
 use mathlib.Core.Path.{sym, ap, ◌∙◌}
-use borrow.Author.Tests.{not-true, not-false}
 use borrow.Author.Rules.{rules}
 use Rattle.base.specs.Answers.{refused}
 use Rattle.index.specs.Arrays.{Arrays, arrays}

@@ -4,7 +4,6 @@ use mathlib.Core.Path.{◌≡◌, ap, sym, ◌∙◌}
 use native.Mathlib.Nat.{div-le_self}
 use native.Mathlib.Omega.{arith}
 use borrow.Author.Rules.{rules}
-use borrow.Author.Tests.{not-true, not-false}
 use lib.ListN.{length}
 use Rattle.directory.specs.Counters.{superblock_row, block_row, superblock_rows, block_rows}
 use Rattle.directory.proofs.Rows.{superblock_row_length, block_row_length, superblock_some, superblock_rows_length, block_rows_length, is_directory_lem, not_directory}

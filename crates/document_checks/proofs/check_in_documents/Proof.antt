@@ -1,7 +1,6 @@
 -- `check_in_documents` meets its contract: the check decides, then the rules of the starts. Assumes nothing.
 use mathlib.Core.Path.{◌≡◌, sym, ap, ◌∙◌}
 use borrow.Author.Rules.{rules}
-use borrow.Author.Tests.{not-true, not-false}
 use lib.ListN.{length}
 use Rattle.base.specs.declared.Answer.{Answer}
 use Rattle.index.specs.Arrays.{Arrays, arrays, text_in}

@@ -2,7 +2,6 @@
 use mathlib.Core.Path.{◌≡◌, refl, sym, ap, ◌∙◌}
 use mathlib.Core.Bool.{true, false}
 use borrow.Author.Rules.{rules}
-use borrow.Author.Tests.{not-true, not-false}
 use Rattle.base.specs.Answers.{accepted}
 use Rattle.base.specs.Texts.{outside}
 use Rattle.dense.specs.Code.{max_vocabulary}

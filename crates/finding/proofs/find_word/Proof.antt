@@ -1,5 +1,4 @@
 -- `finding::find_word` meets its contract: the constant is the letter table, which keeps the rules. Assumes nothing.
-use borrow.Author.Rules.{rules}
 use Rattle.base.specs.Texts.{outside}
 use Rattle.lexicon.proofs.Tables.{letters_rule}
 use Rattle.lexicon.specs.Letters.{within, letter_of, letters}

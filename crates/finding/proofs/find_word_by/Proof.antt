@@ -3,7 +3,6 @@ use mathlib.Core.Path.{◌≡◌, sym, ap, ◌∙◌}
 use mathlib.Core.Bool.{false}
 use native.Mathlib.Omega.{arith}
 use borrow.Author.Rules.{rules}
-use borrow.Author.Tests.{not-true, not-false}
 use Rattle.base.specs.Texts.{outside}
 use Rattle.base.proofs.Tests.{inside_range, below_range, above_range}
 use Rattle.dense.specs.Code.{max_vocabulary}

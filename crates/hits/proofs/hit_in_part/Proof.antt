@@ -177,13 +177,12 @@ placed c =
     omega (arith, (st (c.before.before.before.before.before)).requires.3.anchored, after (c.before.before.before.before.before))
 
 returns-2 : tie.Need-returns-then-hit_at invariant-loop decreases-loop
-returns-2 c =
-    (
-      omega (arith, placed (c.before), after (c.before.before.before.before.before.before)),
-      less (placed (c.before)) (met (c.before.before)),
-      sym c.hit_at.ensures ∙ c.if-hit_at.true,
-      λ p g l. clear (c.before.before.before) p g (omega (arith, placed (c.before))),
-    )
+returns-2 c = (
+  omega (arith, placed (c.before), after (c.before.before.before.before.before.before)),
+  less (placed (c.before)) (met (c.before.before)),
+  sym c.hit_at.ensures ∙ c.if-hit_at.true,
+  λ p g l. clear (c.before.before.before) p g (omega (arith, placed (c.before))),
+)
 
 add-at-2 : tie.Need-overflow_add-at-in-loop-at invariant-loop decreases-loop
 add-at-2 c =
@@ -194,14 +193,13 @@ loop-less c =
     nearer (at (c.before.before.before.before.before.before)) c.next_pair-at.result _ (st (c.before.before.before.before.before.before)).args.to (met (c.before.before)) (omega arith)
 
 loop-again : tie.Need-loop-at-preserved invariant-loop decreases-loop
-loop-again c =
-    (
-      omega (arith, after (c.before.before.before.before.before.before)),
-      λ p g l. ⊎_elim
-          (λ k. clear (c.before.before.before) p g k)
-          (λ k. let e : at (c.before.before.before.before.before.before) + c.next_pair-at.result - (st (c.before.before.before.before.before.before)).args.anchor ≡ p = omega (arith, placed (c.before)) in ap (test (st (c.before.before.before.before.before.before))) (sym e) ∙ sym c.hit_at.ensures ∙ c.if-hit_at.false)
-          (below_or_not (p + (st (c.before.before.before.before.before.before)).args.anchor) (at (c.before.before.before.before.before.before) + c.next_pair-at.result)),
-    )
+loop-again c = (
+  omega (arith, after (c.before.before.before.before.before.before)),
+  λ p g l. ⊎_elim
+      (λ k. clear (c.before.before.before) p g k)
+      (λ k. let e : at (c.before.before.before.before.before.before) + c.next_pair-at.result - (st (c.before.before.before.before.before.before)).args.anchor ≡ p = omega (arith, placed (c.before)) in ap (test (st (c.before.before.before.before.before.before))) (sym e) ∙ sym c.hit_at.ensures ∙ c.if-hit_at.false)
+      (below_or_not (p + (st (c.before.before.before.before.before.before)).args.anchor) (at (c.before.before.before.before.before.before) + c.next_pair-at.result)),
+)
 
 returns-3 : tie.Need-returns invariant-loop decreases-loop
 returns-3 c = λ p h l. c.loop-at.invariant.1 p h (omega arith)

@@ -68,12 +68,11 @@ text-length-requires : tie.Need-text_length-n-requires invariant-loop decreases-
 text-length-requires c κs = checked_some c.requires.0.searchable.ready.checked
 
 last-below-requires : tie.Need-last_below-high-requires invariant-loop decreases-loop
-last-below-requires c κs =
-    (
-      omega (arith, c.text_length-n.ensures.1 _ _ _ _ _ c.requires.0.searchable.ready.checked, text_most c.requires.0.searchable.ready.checked),
-      omega (arith, c.requires.1.sides.numbered, c.requires.0.searchable.most),
-      c.requires.1.sides.seconded.near,
-    )
+last-below-requires c κs = (
+  omega (arith, c.text_length-n.ensures.1 _ _ _ _ _ c.requires.0.searchable.ready.checked, text_most c.requires.0.searchable.ready.checked),
+  omega (arith, c.requires.1.sides.numbered, c.requires.0.searchable.most),
+  c.requires.1.sides.seconded.near,
+)
 
 least-requires : tie.Need-least-requires invariant-loop decreases-loop
 least-requires c κs = search rules
@@ -129,19 +128,18 @@ module _ (c : tie.At-loop-place invariant-loop decreases-loop) where
   high-covers q l h g = c.last_below-high.ensures.3 q l (omega (arith, h, words)) (omega (arith, g, words))
 
 hit-in-part-requires : tie.Need-hit_in_part-hit-requires invariant-loop decreases-loop
-hit-in-part-requires c κs =
-    (
-      (st (c.before)).requires.0,
-      (st (c.before)).requires.1.paired,
-      (st (c.before)).requires.1.sides,
-      record {
-        anchored = omega (arith, c.loop-place.invariant.0.after);
-        back = c.loop-place.invariant.0.back;
-        inside = omega (arith, c.least-stop.ensures, high-inside (c.before));
-        beside = λ h. omega (arith, high-room (c.before) (omega (arith, c.least-stop.ensures)), c.least-stop.ensures);
-      },
-      (st (c.before)).requires.3,
-    )
+hit-in-part-requires c κs = (
+  (st (c.before)).requires.0,
+  (st (c.before)).requires.1.paired,
+  (st (c.before)).requires.1.sides,
+  record {
+    anchored = omega (arith, c.loop-place.invariant.0.after);
+    back = c.loop-place.invariant.0.back;
+    inside = omega (arith, c.least-stop.ensures, high-inside (c.before));
+    beside = λ h. omega (arith, high-room (c.before) (omega (arith, c.least-stop.ensures)), c.least-stop.ensures);
+  },
+  (st (c.before)).requires.3,
+)
 
 -- what is known of the hit of a part
 module _ (c : tie.After-hit_in_part-hit invariant-loop decreases-loop) where

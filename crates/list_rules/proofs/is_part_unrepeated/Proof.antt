@@ -1,6 +1,5 @@
 -- `list_rules::is_part_unrepeated` meets its contract: the words of the part, and those behind it. Assumes nothing.
 use mathlib.Core.Path.{sym, ◌∙◌}
-use borrow.Author.Tests.{not-true, not-false}
 use Rattle.list_rules.proofs.Repeats.{repeated_more}
 use Rattle.list_rules.proofs.is_part_unrepeated.Statement.{statement}
 use Rattle.list_rules.proofs.is_part_unrepeated.Tie as tie

@@ -5,7 +5,6 @@ use mathlib.Core.Bool.{Bool, true, false, ◌&&◌}
 use mathlib.Core.Logic.{⊎_elim}
 use native.Mathlib.Omega.{arith}
 use borrow.Author.Rules.{rules}
-use borrow.Author.Tests.{not-true, not-false}
 use lib.ListN.{length, drop}
 use Rattle.lexicon.proofs.Tables.{table_sized}
 use Rattle.lexicon.proofs.WordLists.{not_spelling_zero, not_spelling_other, is_spelling_lem}

@@ -6,7 +6,7 @@ use mathlib.Core.Bool.{Bool, false, ◌&&◌}
 use mathlib.Core.List.{List}
 use native.Mathlib.Omega.{arith}
 use borrow.Author.Rules.{rules}
-use borrow.Author.Tests.{eqb-true, eqb-false, not-true, not-false}
+use borrow.Author.Tests.{eqb-true, eqb-false}
 use lib.IntN.{ℤ, pos, ◌+ℤ◌, nat_abs}
 use lib.ListN.{length, get_or}
 use Rattle.base.proofs.Tests.{false_of, and_right}

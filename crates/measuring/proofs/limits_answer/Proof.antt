@@ -4,7 +4,7 @@ use mathlib.Core.Bool.{false}
 use native.Mathlib.Omega.{arith}
 use borrow.Author.Rules.{rules}
 use Rattle.base.specs.declared.Answer.{Answer}
-use Rattle.base.specs.Answers.{accepted, refused}
+use Rattle.base.specs.Answers.{accepted}
 use Rattle.base.specs.Texts.{outside}
 use Rattle.dense.specs.Code.{max_vocabulary}
 use Rattle.index.proofs.Refusals.{limits_zero, vocabulary_outside, vocabulary_inside, blocks_outside_lem, text_vocabulary, text_words_lem, text_blocks}

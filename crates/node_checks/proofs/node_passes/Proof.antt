@@ -4,7 +4,6 @@ use mathlib.Core.Path.{◌≡◌, refl, sym, ap, ◌∙◌}
 use mathlib.Core.Bool.{true}
 use mathlib.Core.List.{List}
 use native.Mathlib.Omega.{arith}
-use borrow.Author.Tests.{not-true, not-false}
 use lib.ListN.{get_or, take, drop}
 use Rattle.base.specs.Lists.{all_pass, range_from, count_of}
 use Rattle.base.proofs.Ranges.{pass_range_suc}

@@ -7,7 +7,7 @@ use borrow.Author.Rules.{rules}
 use lib.ListN.{length, get_or}
 use Rattle.dense.proofs.Numbers.{small}
 use Rattle.tree.specs.declared.Position.{Position}
-use Rattle.tree.specs.Nodes.{child, rank_in}
+use Rattle.tree.specs.Nodes.{rank_in}
 use Rattle.tree.proofs.Numbers.{child_above, nodes_most}
 use Rattle.index.specs.Arrays.{Arrays, arrays, text_in}
 use Rattle.words.proofs.Parts.{node_in, checked_number, node_inside, byte_small, node_from_lem, node_counted}
