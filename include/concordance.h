@@ -59,8 +59,8 @@
  *   concordance_read_text, concordance_read_text_with, concordance_find_word, concordance_find_word_with: 1463 KB
  *   concordance_make_list, concordance_make_list_with: 919 KB
  *   concordance_build, concordance_build_sized, concordance_ask, concordance_answer_sheet, concordance_passage, concordance_list,
- *   concordance_ask_in_documents, concordance_answer_sheet_in_documents, concordance_list_in_documents, concordance_summary: 265 KB
- *   concordance_check: 3 KB
+ *   concordance_ask_in_documents, concordance_answer_sheet_in_documents, concordance_list_in_documents, concordance_summary: 267 KB
+ *   concordance_check: 5 KB
  *   concordance_write_stream, concordance_read_stream, concordance_measure, concordance_open, concordance_check_letters: less than 1 KB
  */
 #ifndef CONCORDANCE_H

@@ -51,7 +51,7 @@
 //!
 //! The engine allocates nothing; its tables lie on the stack of the calling thread. As `bench/stack.c` measures it, [`read_text`],
 //! [`read_text_with`], [`find_word`] and [`find_word_with`] need 1.5 MB, [`make_list`] and [`make_list_with`] 0.9 MB, building, questions, sheets,
-//! passages, pages and summaries 265 KB, the rest less than 4 KB. A thread with Rust's default stack of 2 MB can make every call.
+//! passages, pages and summaries 267 KB, the rest less than 5 KB. A thread with Rust's default stack of 2 MB can make every call.
 //!
 //! # What the check says
 //!

@@ -3,7 +3,6 @@ use mir.Syntax.{w32}
 use mir.Facts.{to_z-of_z}
 use mathlib.Core.Path.{sym, ap, ◌∙◌}
 use borrow.Author.Rules.{rules}
-use Rattle.base.specs.Answers.{refused}
 use Rattle.questions.proofs.Answered.{kind_1, kind_2, kind_3, kind_4, kind_5, kind_none}
 use Rattle.questions.specs.Answering.{neighbours_answer}
 use Rattle.answering.proofs.answer.Statement.{statement}

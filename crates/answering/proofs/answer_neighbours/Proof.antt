@@ -7,7 +7,7 @@ use mathlib.Core.List.{List}
 use native.Mathlib.Omega.{arith}
 use borrow.Author.Rules.{rules}
 use lib.IntN.{nat_abs}
-use Rattle.base.specs.Answers.{accepted, refused}
+use Rattle.base.specs.Answers.{accepted}
 use Rattle.base.specs.Texts.{max_offset}
 use Rattle.index.specs.Arrays.{arrays, text_in}
 use Rattle.words.proofs.Positions.{ranks_below_lem}

@@ -9,7 +9,7 @@ use Rattle.words.specs.Words.{occurrences_below}
 use Rattle.words.proofs.Parts.{checked_some}
 use Rattle.words.proofs.Positions.{ranks_below_lem}
 use Rattle.documents.proofs.Absent.{absent_words}
-use Rattle.base.specs.Answers.{accepted, refused}
+use Rattle.base.specs.Answers.{accepted}
 use Rattle.questions.proofs.Answered.{occurrences_rank, occurrences_outside, occurrences_inside}
 use Rattle.answering.proofs.answer_occurrences.Statement.{statement}
 use Rattle.answering.proofs.answer_occurrences.Tie as tie

@@ -5,7 +5,7 @@ use mathlib.Core.List.{[]}
 use native.Mathlib.Omega.{arith}
 use borrow.Author.Rules.{rules}
 use Rattle.index.specs.Arrays.{arrays, text_in}
-use Rattle.base.specs.Answers.{accepted, refused}
+use Rattle.base.specs.Answers.{accepted}
 use Rattle.questions.proofs.Answered.{place_rank, place_outside, place_never, place_inside}
 use Rattle.words.specs.Words.{frequency}
 use Rattle.words.proofs.Positions.{ranks_below_lem}

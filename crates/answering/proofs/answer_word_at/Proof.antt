@@ -3,7 +3,7 @@ use mathlib.Core.Path.{sym, ap, ◌∙◌}
 use native.Mathlib.Omega.{arith}
 use borrow.Author.Rules.{rules}
 use Rattle.words.proofs.Parts.{checked_some}
-use Rattle.base.specs.Answers.{accepted, refused}
+use Rattle.base.specs.Answers.{accepted}
 use Rattle.questions.proofs.Answered.{word_at_outside, word_at_inside}
 use Rattle.answering.proofs.answer_word_at.Statement.{statement}
 use Rattle.answering.proofs.answer_word_at.Tie as tie

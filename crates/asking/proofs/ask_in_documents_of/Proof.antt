@@ -3,7 +3,6 @@ use mathlib.Core.Path.{◌≡◌, sym, ap, ◌∙◌}
 use mathlib.Core.Bool.{true}
 use native.Mathlib.Omega.{arith}
 use borrow.Author.Rules.{rules}
-use borrow.Author.Tests.{eqb-true}
 use lib.ListN.{length}
 use Rattle.index.specs.Arrays.{Arrays, arrays, text_in}
 use Rattle.base.specs.declared.Answer.{Answer}

@@ -1,5 +1,5 @@
 -- `concordance::concordance_answer_sheet` meets its contract: what is said with the starts that `one_start` gives is what the contract says. Assumes nothing.
-use Rattle.std.proofs.Common.{◌≡◌, ℕ, List, length, ap, ◌∙◌}
+use Rattle.std.proofs.Common.{ℕ, List, length, ap, ◌∙◌}
 use Rattle.index.specs.Arrays.{arrays}
 use Rattle.sheet_calls.specs.Sheets.{sheet_answer, sheet_exit}
 use Rattle.sheet_calls.proofs.Whole.{sheet_whole}

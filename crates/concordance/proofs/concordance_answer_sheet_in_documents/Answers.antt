@@ -1,15 +1,15 @@
 -- `concordance::concordance_answer_sheet_in_documents` meets its contract: the loop answers the questions one after the other. All that the proof knows of `prepare` and of `answer_next` is that each meets its contract. Assumes nothing.
-use Rattle.std.proofs.Common.{◌≡◌, ℕ, ◌+◌, ◌*◌, ◌<◌, ◌≤◌, List, length, refl, sym, ap, ◌∙◌, arith, add-one, suc, get_or, eq-eqb, ne_eqb, true, pos}
+use Rattle.std.proofs.Common.{◌≡◌, ◌*◌, ◌≤◌, length, sym, ap, ◌∙◌, arith, add-one, suc, get_or, eq-eqb, ne_eqb, true, pos}
 use Rattle.base.specs.declared.Answer.{Answer}
 use Rattle.base.specs.Answers.{accepted, is_accepted, written}
-use Rattle.index.specs.Arrays.{Arrays, arrays, text_in}
+use Rattle.index.specs.Arrays.{arrays, text_in}
 use Rattle.index.specs.Entries.{check_answer}
 use Rattle.words.proofs.Parts.{accepted_checked}
 use Rattle.documents.specs.Documents.{are_starts}
 use Rattle.questions.specs.declared.Question.{Question}
 use Rattle.questions.specs.Answering.{question_answer}
-use Rattle.sheet_calls.specs.Sheets.{pair_of, sheet_answer, sheet_exit}
-use Rattle.sheet_calls.proofs.Tested.{sheet_clear, sheet_filled, sheet_untouched, after, after_none, after_next, after_all, after_length}
+use Rattle.sheet_calls.specs.Sheets.{pair_of}
+use Rattle.sheet_calls.proofs.Tested.{sheet_clear, sheet_filled, sheet_untouched, after, after_none, after_next, after_all}
 use Rattle.concordance.proofs.Published.{closing_128}
 use Rattle.concordance.proofs.concordance_answer_sheet_in_documents.Goals as goal
 
@@ -18,7 +18,7 @@ returns-then-answer-ne0 c =
     let a = arrays c.args.lengths.now c.args.bytes.now c.args.superblocks.now c.args.blocks.now in (
       c.prepare-answer.ensures.0,
       sym (sheet_untouched 128 c.args.shape a c.args.documents.now c.args.words.now c.args.questions.now c.args.answers.now
-      (ap is_accepted (sym c.prepare-answer.ensures.0) ∙ ne_eqb c.prepare-answer.result.refusal 0 c.if-answer-ne0.true)),
+          (ap is_accepted (sym c.prepare-answer.ensures.0) ∙ ne_eqb c.prepare-answer.result.refusal 0 c.if-answer-ne0.true)),
     )
 
 pub loop-i-init : goal.loop-i-init

@@ -1,7 +1,6 @@
 -- `lent_tables::make_list_with` meets its contract: the table is checked, and then the list is made with it. Assumes nothing.
 use mathlib.Core.Path.{sym, ◌∙◌}
 use borrow.Author.Rules.{rules}
-use borrow.Author.Tests.{not-true, not-false}
 use Rattle.lent_tables.proofs.Calls.{makes_refused_by, makes_as}
 use Rattle.lent_tables.proofs.make_list_with.Statement.{statement}
 use Rattle.lent_tables.proofs.make_list_with.Tie as tie

@@ -1,7 +1,6 @@
 -- `lent_tables::read_text_with` meets its contract: the table is checked, and then the text is read with it. Assumes nothing.
 use mathlib.Core.Path.{sym, ◌∙◌}
 use borrow.Author.Rules.{rules}
-use borrow.Author.Tests.{not-true, not-false}
 use Rattle.lent_tables.proofs.Calls.{reads_refused_lem, reads_as}
 use Rattle.lent_tables.proofs.read_text_with.Statement.{statement}
 use Rattle.lent_tables.proofs.read_text_with.Tie as tie
