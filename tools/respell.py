@@ -8,7 +8,8 @@ A row of the table has an old name, a new one, and where it is written anew: `ev
 dot and the parts of a path. Proofs, specs, clauses, must-fail edits and the words in back quotes of documents are turned. Functions
 of src/, exported names, strings, inputs and outputs keep theirs. In a source the ghost value `a`, which an equation of a `requires`
 fixes to the four lent slices, becomes a `let` of each clause, as the kit's let_ghosts.py writes it; plain structs are `Copy`, as every
-struct was; and the root file has the line that lets the check try its tactics. It is run once: a second run would take names that the first one made for older ones.
+struct was; and the root file has the line that lets the check try its tactics. It is run once: a second run would take names that the
+first one made for older ones.
 """
 
 import glob

@@ -14,10 +14,6 @@ use Rattle.sheet_calls.proofs.Tested.{pair_written}
 use Rattle.sheets.proofs.answer_next.Statement.{statement}
 use Rattle.sheets.proofs.answer_next.Tie as tie
 
--- the start, from past the call
-abbrev start : tie.After-struct_known-1 → tie.Start
-start c = c.before.before.before.before.before.before.before.before.before.before
-
 -- the value of an answer fits the numbers of a pair
 small : (c : tie.After-struct_known-1) → c.answer-answer.result.value ≤ suc max_words
 small c =
