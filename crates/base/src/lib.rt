@@ -6,7 +6,9 @@ pub mod refusal;
 
 ghost use Rattle.std.specs.Prelude.{◌≡◌, min, leb};
 ghost use Rattle.base.specs.Lists.{first_where};
-ghost use Rattle.base.specs.Answers.{accepted, refused, refused_at};
+ghost use Rattle.base.specs.Answers.{accepted, refused, refused_at, answer_of, test_answer};
+
+use refusal::Refused;
 
 // The most words of a vocabulary with 128 closing values.
 pub const MAX_VOCABULARY: usize = 2113664;
@@ -53,6 +55,34 @@ impl Answer {
         Answer {
             refusal: number,
             value: at,
+        }
+    }
+}
+
+impl From<Result<usize, Refused>> for Answer {
+    ghost from_gives = { λ outcome answer. answer ≡ answer_of outcome };
+
+    fn from(outcome: Result<usize, Refused>) -> Answer {
+        match outcome {
+            Ok(value) => Answer::accepted(value),
+            Err(refused) => Answer {
+                refusal: refused.refusal.number(),
+                value: refused.at,
+            },
+        }
+    }
+}
+
+impl From<Result<(), Refused>> for Answer {
+    ghost from_gives = { λ outcome answer. answer ≡ test_answer outcome };
+
+    fn from(outcome: Result<(), Refused>) -> Answer {
+        match outcome {
+            Ok(()) => Answer::accepted(0),
+            Err(refused) => Answer {
+                refusal: refused.refusal.number(),
+                value: refused.at,
+            },
         }
     }
 }
