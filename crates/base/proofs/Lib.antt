@@ -11,3 +11,4 @@ pub mod Cuts
 pub mod Answers
 pub mod Fronts
 pub mod Texts
+pub mod StdWords
