@@ -1,8 +1,6 @@
 -- The answer of a call, the rule by which a refusal is chosen, and what a call leaves in a slice that it fills.
-use Rattle.std.specs.Prelude.{ℕ, Result, Ok, Err, ⊤, ◌+◌, ◌≤◌, ◌≡◌, Bool, true, false, cond, List, [], ◌∷◌, ◌++◌, eqb, length, take, drop}
+use Rattle.std.specs.Prelude.{ℕ, ◌+◌, ◌≤◌, ◌≡◌, Bool, true, false, cond, List, [], ◌∷◌, ◌++◌, eqb, length, take, drop}
 use Rattle.base.specs.declared.Answer.{Answer}
-use Rattle.base.specs.declared.refusal.Refused.{Refused}
-use Rattle.base.specs.Refusals.{number_of}
 
 -- an accepted call returns 0 and its answer
 abbrev pub accepted : ℕ → Answer
@@ -15,16 +13,6 @@ refused number = record { refusal = number; value = 0 }
 -- a call refused with this number, and the place or byte offset that is returned with it
 abbrev pub refused_at : ℕ → ℕ → Answer
 refused_at number at = record { refusal = number; value = at }
-
--- the answer of a call that gives a value or is refused
-abbrev pub answer_of : Result ℕ Refused → Answer
-answer_of (Ok value) = accepted value
-answer_of (Err e) = refused_at (number_of e.refusal) e.at
-
--- the answer of a call that tests: 0 where nothing refuses
-abbrev pub test_answer : Result ⊤ Refused → Answer
-test_answer (Ok _) = accepted 0
-test_answer (Err e) = refused_at (number_of e.refusal) e.at
 
 -- whether a call is accepted
 abbrev pub is_accepted : Answer → Bool

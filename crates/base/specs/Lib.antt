@@ -1,5 +1,6 @@
 pub mod Lists
 pub mod Refusals
 pub mod Answers
+pub mod Outcomes
 pub mod Texts
 pub mod Samples

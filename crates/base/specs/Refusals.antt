@@ -1,9 +1,6 @@
 -- The numbers of the table of refusals: 1 to 15 of paper 01, "Calls turned down", the others of paper 02. `refusal` in `src/` has the same, by
 -- the same names.
-use Rattle.std.specs.Prelude.{ℕ, Result, Ok, Err, ⊤}
-use Rattle.base.specs.declared.refusal.Refusal.{Refusal}
-use Rattle.base.specs.declared.refusal.Refusal.TheVariants.{Vocabulary, Words, Blocks, TextRank, ShortSlice, Index, Kind, Phrase, AskedRank, Offset, Place, Page, WordList, Unlisted, Stream, Sizes, ListMaking, Table, Documents}
-use Rattle.base.specs.declared.refusal.Refused.{Refused}
+use Rattle.std.specs.Prelude.{ℕ}
 
 -- V is outside its limits
 abbrev pub refusal_vocabulary : ℕ
@@ -80,34 +77,3 @@ refusal_table = 18
 -- document starts break a rule
 abbrev pub refusal_documents : ℕ
 refusal_documents = 19
-
--- the number of a refusal
-abbrev pub number_of : Refusal → ℕ
-number_of Vocabulary = refusal_vocabulary
-number_of Words = refusal_words
-number_of Blocks = refusal_blocks
-number_of TextRank = refusal_text_rank
-number_of ShortSlice = refusal_short_slice
-number_of Index = refusal_index
-number_of Kind = refusal_kind
-number_of Phrase = refusal_phrase
-number_of AskedRank = refusal_asked_rank
-number_of Offset = refusal_offset
-number_of Place = refusal_place
-number_of Page = refusal_page
-number_of WordList = refusal_word_list
-number_of Unlisted = refusal_unlisted
-number_of Stream = refusal_stream
-number_of Sizes = refusal_sizes
-number_of ListMaking = refusal_list_making
-number_of Table = refusal_table
-number_of Documents = refusal_documents
-
--- a refusal with which 0 is returned
-abbrev pub refused_by : Refusal → Refused
-refused_by refusal = record { refusal = refusal; at = 0 }
-
--- the number of the refusal that a test brings; 0 where nothing refuses
-abbrev pub number_of_test : Result ⊤ Refusal → ℕ
-number_of_test (Ok _) = 0
-number_of_test (Err refusal) = number_of refusal

@@ -6,7 +6,8 @@ pub mod refusal;
 
 ghost use Rattle.std.specs.Prelude.{◌≡◌, min, leb};
 ghost use Rattle.base.specs.Lists.{first_where};
-ghost use Rattle.base.specs.Answers.{accepted, refused, refused_at, answer_of, test_answer};
+ghost use Rattle.base.specs.Answers.{accepted, refused, refused_at};
+ghost use Rattle.base.specs.Outcomes.{answer_of, test_answer};
 
 use refusal::Refused;
 

@@ -1,7 +1,7 @@
 // The table of refusals: why a call is turned down.
 
 ghost use Rattle.std.specs.Prelude.{◌≡◌};
-ghost use Rattle.base.specs.Refusals.{number_of, refused_by};
+ghost use Rattle.base.specs.Outcomes.{number_of, refused_by};
 
 // Why a call is refused. Each refusal has the number that a call returns for it.
 #[derive(Clone, Copy, PartialEq, Eq, Debug)]
