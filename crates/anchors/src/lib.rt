@@ -6,6 +6,8 @@
 // and `starts` is the table that `starts::node_starts` fills.
 #![tactic(auto)]
 
+pub mod lent;
+
 ghost use Rattle.std.specs.Prelude.{◌≡◌, ◌≤◌, ◌<◌, length};
 ghost use Rattle.base.specs.Texts.{max_words};
 ghost use Rattle.index.specs.Arrays.{Arrays, arrays, text_in};

@@ -4,3 +4,4 @@ pub mod Answers
 pub mod Outcomes
 pub mod Texts
 pub mod Samples
+pub mod Props

@@ -1,3 +1,4 @@
 pub mod Arrays
 pub mod Entries
 pub mod Exact
+pub mod Lent

@@ -18,6 +18,18 @@ pub struct Shape {
     pub per_superblock: usize,
 }
 
+// An index as it is lent, which may be of no text: the number s of closing byte values, its shape and
+// its four slices.
+#[derive(Clone, Copy)]
+pub struct LentIndex<'a> {
+    pub s: usize,
+    pub shape: Shape,
+    pub lengths: &'a [u32],
+    pub bytes: &'a [u8],
+    pub superblocks: &'a [u32],
+    pub blocks: &'a [u16],
+}
+
 // The number of the refusal that V, B or b outside their limits brings; 0 where they are within.
 pub fn limits_refusal(s: usize, shape: Shape) -> u32
     requires { Closing s }

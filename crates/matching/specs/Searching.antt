@@ -1,5 +1,5 @@
 -- What the tests of this crate require, over the text of arrays that have passed the check.
-use Rattle.std.specs.Prelude.{ℕ, ◌≤◌, ◌≡◌, List, map, length}
+use Rattle.std.specs.Prelude.{ℕ, ℤ, ◌≤◌, ◌≡◌, List, map, length}
 use Rattle.base.specs.Lists.{Below}
 use Rattle.base.specs.Texts.{max_phrase}
 use Rattle.dense.specs.Code.{code}
@@ -30,3 +30,7 @@ pub record Searching (s : ℕ) (shape : Shape) (a : Arrays) (starts firsts words
 abbrev pub Paired : List ℕ → Sought → Type 0
 Paired words Phrase = Unit {0}
 Paired words (Pair d) = length words ≡ 2
+
+-- what is no phrase is of two words
+abbrev pub AsPair : List ℕ → Sought → Type 0
+AsPair words sought = (d : ℤ) → sought ≡ Pair d → length words ≡ 2

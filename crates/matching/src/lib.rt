@@ -17,10 +17,14 @@ ghost use Rattle.phrases.specs.Phrases.{stands};
 ghost use Rattle.phrases.specs.Neighbours.{stands_at};
 ghost use Rattle.documents.specs.Documents.{is_ascending, same_document, stands_in, neighbour_in};
 ghost use Rattle.matching.specs.Sought.{hit_in};
+ghost use Rattle.words.specs.Texts.{text_of};
 ghost use Rattle.matching.specs.Searching.{first_bytes, Searching, Paired};
+
+pub mod query;
 
 use index::Shape;
 use phrases::Found;
+use query::Query;
 use tree::{Place, Position};
 
 // What is sought, beside its words: a phrase of them, or the first of two with the second at an
@@ -325,5 +329,30 @@ pub fn hit_at(
             place,
             offset,
         ),
+    }
+}
+
+impl Query<'_> {
+    // Whether what is sought stands at a place of the text, inside one document.
+    pub fn hit_at(&self, place: Place) -> bool
+        requires { place.0 < length (text_of self.now.text) }
+        ensures { result ≡ hit_in self.now.documents.now (text_of self.now.text) self.now.words.now self.now.sought place.0 }
+    {
+        let text = self.text;
+        let index = text.index;
+        hit_at(
+            index.s,
+            index.shape,
+            index.lengths,
+            index.bytes,
+            index.superblocks,
+            index.blocks,
+            text.starts,
+            self.documents,
+            self.firsts,
+            self.words,
+            self.sought,
+            place,
+        )
     }
 }

@@ -7,6 +7,8 @@
 // callers have shown. What they answer is defined over the text of the slices.
 #![tactic(auto)]
 
+pub mod lent;
+
 ghost use Rattle.std.specs.Prelude.{◌≡◌, ◌+◌, ◌≤◌, ◌<◌, length, get_or, take};
 ghost use Rattle.base.specs.Lists.{count_of, nth};
 ghost use Rattle.index.specs.Arrays.{Arrays, arrays, text_in};

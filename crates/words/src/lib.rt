@@ -14,8 +14,12 @@ ghost use Rattle.index.specs.Arrays.{Arrays, arrays, text_in};
 ghost use Rattle.words.specs.Words.{rank_at, occurrences_below, frequency};
 ghost use Rattle.words.specs.Ready.{node_from, Counted, Ready, WordsOf};
 ghost use Rattle.words.specs.Steps.{StepIn, BelowOf};
+ghost use Rattle.words.specs.Texts.{text_of, vocabulary_of};
+
+pub mod indexed_text;
 
 use index::Shape;
+use indexed_text::IndexedText;
 use tree::{Place, Position};
 
 // The number of words of the text: the length of the root.
@@ -291,4 +295,113 @@ pub fn frequency(
         rank,
         first,
     )
+}
+
+impl IndexedText<'_> {
+    // The number of words of the text.
+    pub fn length(&self) -> usize
+        ensures { result ≡ length (text_of self.now) }
+    {
+        text_length(self.index.lengths)
+    }
+
+    // The rank at a place of the text.
+    pub fn word_at(&self, place: Place) -> u32
+        requires { place.0 < length (text_of self.now) }
+        ensures { result ≡ rank_at (text_of self.now) place.0 }
+    {
+        let index = self.index;
+        word_at(
+            index.s,
+            index.shape,
+            index.lengths,
+            index.bytes,
+            index.superblocks,
+            index.blocks,
+            self.starts,
+            place,
+        )
+    }
+
+    // The step that looks for a byte in a node.
+    pub fn step_in(&self, node: usize, byte: u8) -> Step
+        requires { node < length self.now.index.lengths.now }
+        ensures { StepIn self.now.index.bytes.now self.now.starts.now node byte result }
+    {
+        let index = self.index;
+        step_in(
+            index.shape,
+            index.bytes,
+            index.superblocks,
+            index.blocks,
+            self.starts,
+            node,
+            byte,
+        )
+    }
+
+    // How often a rank stands below a place of the text, or in the whole text at its end, and the
+    // position of the place in the node where its codeword ends.
+    pub fn count_below(&self, rank: usize, place: Place) -> Below
+        requires { (rank < vocabulary_of self.now) × (place.0 ≤ length (text_of self.now)) }
+        ensures { BelowOf self.now.index.s self.now.index.bytes.now self.now.starts.now rank result × (result.count ≡ occurrences_below (text_of self.now) rank place.0) }
+    {
+        let index = self.index;
+        count_below(
+            index.s,
+            index.shape,
+            index.lengths,
+            index.bytes,
+            index.superblocks,
+            index.blocks,
+            self.starts,
+            rank,
+            place,
+        )
+    }
+
+    // The number alone.
+    pub fn occurrences_below(&self, rank: usize, place: Place) -> usize
+        requires { (rank < vocabulary_of self.now) × (place.0 ≤ length (text_of self.now)) }
+        ensures { result ≡ occurrences_below (text_of self.now) rank place.0 }
+    {
+        self.count_below(rank, place).count
+    }
+
+    // How often a rank stands in the text, by the first step of its way.
+    pub fn frequency_by(&self, rank: usize, first: Step) -> usize
+        requires { (rank < vocabulary_of self.now) × StepIn self.now.index.bytes.now self.now.starts.now (node_of self.now.index.s rank) (closing_byte self.now.index.s rank) first }
+        ensures { result ≡ frequency (text_of self.now) rank }
+    {
+        let index = self.index;
+        frequency_by(
+            index.s,
+            index.shape,
+            index.lengths,
+            index.bytes,
+            index.superblocks,
+            index.blocks,
+            self.starts,
+            rank,
+            first,
+        )
+    }
+
+    // How often a rank stands in the text.
+    pub fn frequency(&self, rank: usize) -> usize
+        requires { rank < vocabulary_of self.now }
+        ensures { result ≡ frequency (text_of self.now) rank }
+    {
+        let index = self.index;
+        frequency(
+            index.s,
+            index.shape,
+            index.lengths,
+            index.bytes,
+            index.superblocks,
+            index.blocks,
+            self.starts,
+            rank,
+        )
+    }
 }
