@@ -1,12 +1,13 @@
 -- A phrase stands at a place exactly if it ends inside the text and each of its words is the one there. Assumes nothing.
 use Prim.Native.Nat.{ℕ, zero, suc, ◌+◌, ◌≤◌, ◌<◌}
-use mathlib.Core.Path.{◌≡◌, refl, sym, ◌∙◌}
-use mathlib.Core.Bool.{true, false, false≢true}
+use mathlib.Core.Path.{◌≡◌, refl, sym, ap, ◌∙◌}
+use mathlib.Core.Bool.{Bool, true, false, false≢true, ◌&&◌}
 use mathlib.Core.List.{List, [], ◌∷◌}
 use native.Mathlib.Omega.{arith}
 use borrow.Author.Tests.{leb-true, le-leb, eqb-true, eq-eqb}
 use lib.Dec.{eqb, leb}
-use lib.ListN.{length, drop, get_or, length-drop}
+use lib.ListN.{length, take, drop, get_or, length-drop}
+use lib.Pointwise.{pointwise}
 use lib.Seq.{get_or-drop}
 use Rattle.base.proofs.Tests.{and_left, and_right, and_true, false_of}
 use Rattle.phrases.specs.Phrases.{agrees, stands}
@@ -27,7 +28,21 @@ agrees_all (x ∷ xs) [] l h = absurd (omega arith)
 agrees_all (x ∷ xs) (w ∷ ws) l h =
     and_true (eqb x w) (agrees xs ws) (eq-eqb x w (sym (h 0 (omega arith)))) (agrees_all xs ws (omega arith) (λ i b. h (suc i) (omega arith)))
 
+-- all words agree exactly if as many of the list are the same
+agrees_part : (xs ws : List ℕ) → length xs ≤ length ws → pointwise eqb xs (take (length xs) ws) ≡ agrees xs ws
+unfolding agrees
+agrees_part [] ws l = refl
+agrees_part (x ∷ xs) [] l = absurd (omega arith)
+agrees_part (x ∷ xs) (w ∷ ws) l = ap (λ (b : Bool). eqb x w && b) (agrees_part xs ws (omega arith))
+
 module _ (t phrase : List ℕ) (q : ℕ) where
+  -- a phrase that ends inside the text stands exactly if it is the part of the text there
+  pub stands_part : q + length phrase ≤ length t → pointwise eqb phrase (take (length phrase) (drop q t)) ≡ stands t phrase q
+  unfolding stands
+  stands_part l =
+      agrees_part phrase (drop q t) (rw (length-drop q t) (omega arith))
+      ∙ sym (ap (λ (b : Bool). b && agrees phrase (drop q t)) (le-leb (q + length phrase) (length t) l))
+
   -- a phrase that stands ends inside the text
   pub stands_inside : stands t phrase q ≡ true → q + length phrase ≤ length t
   unfolding stands
