@@ -1,5 +1,5 @@
 -- The second word of a phrase and of a pair. Assumes nothing.
-use Prim.Native.Nat.{ℕ, suc, ◌+◌, ◌-◌, ◌≤◌, ◌<◌, min}
+use Prim.Native.Nat.{ℕ, suc, ◌+◌, ◌-◌, ◌≤◌, ◌<◌}
 use mathlib.Core.Path.{◌≡◌, refl, sym, ap}
 use mathlib.Core.Bool.{Bool, true, false, cond}
 use mathlib.Core.List.{List}
@@ -11,7 +11,7 @@ use lib.ListN.{length, get_or}
 use Rattle.base.specs.Texts.{max_words, max_phrase}
 use Rattle.base.proofs.Tests.{and_left, and_right}
 use Rattle.tree.specs.declared.Place.{Place}
-use Rattle.phrases.specs.declared.Found.TheVariants.{At, Outside}
+use Rattle.std.proofs.Common.{Some, None}
 use Rattle.phrases.specs.Phrases.{stands}
 use Rattle.phrases.specs.Neighbours.{stands_at, neighbour_at}
 use Rattle.phrases.specs.Offsets.{found_at, place_within, shifted_of}
@@ -27,11 +27,11 @@ use Rattle.anchors.specs.Seconds.{Beside, second_at, SecondOf}
 -- ---- of a phrase
 
 -- each word of a phrase stands beside each other, as far as their numbers say
-pub phrase_beside : (t ws : List ℕ) (i k low : ℕ) → i < length ws → k < length ws → low ≡ min i k → Beside t (get_or ws k 0) i (i - low) (k - low) (stands t ws)
-phrase_beside t ws i k low hi hk l = record {
+pub phrase_beside : (t ws : List ℕ) (i k : ℕ) → i < length ws → k < length ws → Beside t (get_or ws k 0) i (i - k) (k - i) (stands t ws)
+phrase_beside t ws i k hi hk = record {
   back = λ q e. omega arith;
   inside = λ q e. omega (arith, stands_inside t ws q e);
-  word = λ q e. let m : q + i - (i - low) + (k - low) ≡ q + k = omega arith in rw m (stands_word t ws q e k hk);
+  word = λ q e. let m : q + i - (i - k) + (k - i) ≡ q + k = omega arith in rw m (stands_word t ws q e k hk);
 }
 
 -- ---- of a pair
@@ -115,11 +115,11 @@ pair_beside t ws d n =
 
 -- ---- of what is sought
 
-pub phrase_second : (t ws : List ℕ) (sought : Sought) (i k low : ℕ) → sought ≡ Phrase → i < length ws → k < length ws → length ws ≤ max_phrase → low ≡ min i k
-    → SecondOf t ws sought i (record { number = k; here = i - low; there = k - low })
-phrase_second t ws sought i k low e hi hk few l = record {
+pub phrase_second : (t ws : List ℕ) (sought : Sought) (i k : ℕ) → sought ≡ Phrase → i < length ws → k < length ws → length ws ≤ max_phrase
+    → SecondOf t ws sought i (record { number = k; here = i - k; there = k - i })
+phrase_second t ws sought i k e hi hk few = record {
   numbered = hk;
-  beside = rw e (phrase_beside t ws i k low hi hk l);
+  beside = rw e (phrase_beside t ws i k hi hk);
   near = omega arith;
   far = omega arith;
 }
@@ -148,53 +148,53 @@ abbrev itself : Second
 itself = record { number = 0; here = 0; there = 0 }
 
 -- 0 moved by the offset is a place
-pub moved_after : (d : ℤ) (n : ℕ) (p : Place) → shifted_of 0 d n ≡ At p → ◌≡◌ {A = Second} (record { number = 1; here = 0; there = p.0 }) (second_at d n)
+pub moved_after : (d : ℤ) (n : ℕ) (p : Place) → shifted_of 0 d n ≡ Some p → ◌≡◌ {A = Second} (record { number = 1; here = 0; there = p.0 }) (second_at d n)
 unfolding shifted_of
 moved_after (pos k) n p e = let z : 0 + k ≡ k = omega arith in by (ltb k n) (rw z at e)
   where
-    by : (b : Bool) → cond b (found_at k) Outside ≡ At p → after_by p.0 ≡ cond b (after_by k) itself
+    by : (b : Bool) → cond b (found_at k) None ≡ Some p → after_by p.0 ≡ cond b (after_by k) itself
     by true e = let s : k ≡ p.0 = cc in ap after_by (sym s)
     by false e = let z : ◌≡◌ {A = ℕ} 0 1 = cc in absurd (omega arith)
 moved_after (negsuc k) n p e = by (ltb 0 (suc k)) refl e
   where
-    by : (b : Bool) → ltb 0 (suc k) ≡ b → place_within (cond b (negsuc (suc k - 1)) (pos (0 - suc k))) n ≡ At p → after_by p.0 ≡ second_at (negsuc k) n
+    by : (b : Bool) → ltb 0 (suc k) ≡ b → place_within (cond b (negsuc (suc k - 1)) (pos (0 - suc k))) n ≡ Some p → after_by p.0 ≡ second_at (negsuc k) n
     by true h e = let z : ◌≡◌ {A = ℕ} 0 1 = cc in absurd (omega arith)
     by false h e = absurd (omega (arith, ltb-false 0 (suc k) h))
 
 -- n is
-pub moved_before : (d : ℤ) (n : ℕ) (p : Place) → shifted_of n d n ≡ At p → ◌≡◌ {A = Second} (record { number = 1; here = n - p.0; there = 0 }) (second_at d n)
+pub moved_before : (d : ℤ) (n : ℕ) (p : Place) → shifted_of n d n ≡ Some p → ◌≡◌ {A = Second} (record { number = 1; here = n - p.0; there = 0 }) (second_at d n)
 unfolding shifted_of
 moved_before (pos k) n p e = by (ltb (n + k) n) refl e
   where
-    by : (b : Bool) → ltb (n + k) n ≡ b → cond b (found_at (n + k)) Outside ≡ At p → before_by (n - p.0) ≡ cond (ltb k n) (after_by k) itself
+    by : (b : Bool) → ltb (n + k) n ≡ b → cond b (found_at (n + k)) None ≡ Some p → before_by (n - p.0) ≡ cond (ltb k n) (after_by k) itself
     by true h e = absurd (omega (arith, ltb-true (n + k) n h))
     by false h e = let z : ◌≡◌ {A = ℕ} 0 1 = cc in absurd (omega arith)
 moved_before (negsuc k) n p e = by (ltb n (suc k)) refl e
   where
-    inside : suc k ≤ n → (b : Bool) → cond b (found_at (n - suc k)) Outside ≡ At p → before_by (n - p.0) ≡ cond (leb (suc k) n) (before_by (suc k)) itself
+    inside : suc k ≤ n → (b : Bool) → cond b (found_at (n - suc k)) None ≡ Some p → before_by (n - p.0) ≡ cond (leb (suc k) n) (before_by (suc k)) itself
     inside h true e =
         let s : n - suc k ≡ p.0 = cc in
         let m : n - p.0 ≡ suc k = omega arith in
         rw (le-leb (suc k) n h) (ap before_by m)
     inside h false e = let z : ◌≡◌ {A = ℕ} 0 1 = cc in absurd (omega arith)
 
-    by : (b : Bool) → ltb n (suc k) ≡ b → place_within (cond b (negsuc (suc k - suc n)) (pos (n - suc k))) n ≡ At p → before_by (n - p.0) ≡ cond (leb (suc k) n) (before_by (suc k)) itself
+    by : (b : Bool) → ltb n (suc k) ≡ b → place_within (cond b (negsuc (suc k - suc n)) (pos (n - suc k))) n ≡ Some p → before_by (n - p.0) ≡ cond (leb (suc k) n) (before_by (suc k)) itself
     by true h e = let z : ◌≡◌ {A = ℕ} 0 1 = cc in absurd (omega arith)
     by false h e = inside (ltb-false n (suc k) h) (ltb (n - suc k) n) e
 
 -- neither is
-pub moved_outside : (d : ℤ) (n : ℕ) → shifted_of 0 d n ≡ Outside → shifted_of n d n ≡ Outside → ◌≡◌ {A = Second} (record { number = 0; here = 0; there = 0 }) (second_at d n)
+pub moved_outside : (d : ℤ) (n : ℕ) → shifted_of 0 d n ≡ None → shifted_of n d n ≡ None → ◌≡◌ {A = Second} (record { number = 0; here = 0; there = 0 }) (second_at d n)
 unfolding shifted_of
 moved_outside (pos k) n e f = let z : 0 + k ≡ k = omega arith in by (ltb k n) (rw z at e)
   where
-    by : (b : Bool) → cond b (found_at k) Outside ≡ Outside → itself ≡ cond b (after_by k) itself
+    by : (b : Bool) → cond b (found_at k) None ≡ None → itself ≡ cond b (after_by k) itself
     by true e = let z : ◌≡◌ {A = ℕ} 0 1 = cc in absurd (omega arith)
     by false e = refl
 moved_outside (negsuc k) n e f = by (leb (suc k) n) refl
   where
-    inside : suc k ≤ n → (b : Bool) → ltb n (suc k) ≡ b → (c : Bool) → ltb (n - suc k) n ≡ c → place_within (cond b (negsuc (suc k - suc n)) (pos (n - suc k))) n ≡ Outside → ⊥
+    inside : suc k ≤ n → (b : Bool) → ltb n (suc k) ≡ b → (c : Bool) → ltb (n - suc k) n ≡ c → place_within (cond b (negsuc (suc k - suc n)) (pos (n - suc k))) n ≡ None → ⊥
     inside h true g c i f = omega (arith, ltb-true n (suc k) g)
-    inside h false g true i f = let o : cond true (found_at (n - suc k)) Outside ≡ Outside = rw i at f in let z : ◌≡◌ {A = ℕ} 0 1 = cc in omega arith
+    inside h false g true i f = let o : cond true (found_at (n - suc k)) None ≡ None = rw i at f in let z : ◌≡◌ {A = ℕ} 0 1 = cc in omega arith
     inside h false g false i f = omega (arith, ltb-false (n - suc k) n i)
 
     by : (b : Bool) → leb (suc k) n ≡ b → itself ≡ cond b (before_by (suc k)) itself
