@@ -2,23 +2,21 @@
 // down the byte tree. A walk passes at most three nodes, and asks the directory at most twice in
 // each.
 //
-// No function of this crate is an entry: the public ones require that the four slices have passed
-// the check and that `starts` is a table that `starts::node_starts` has filled, the others what their
-// callers have shown. What they answer is defined over the text of the slices.
+// No function of this crate is an entry: an indexed text has passed the check, and its table has been
+// filled by `starts::node_starts`. What the methods answer is defined over its text.
 #![tactic(auto)]
 
-ghost use Rattle.std.specs.Prelude.{◌≡◌, ◌≤◌, ◌<◌, length, get_or, take};
+ghost use Rattle.std.specs.Prelude.{◌≡◌, ◌+◌, ◌≤◌, ◌<◌, length, get_or, take};
 ghost use Rattle.base.specs.Lists.{count_of};
 ghost use Rattle.tree.specs.Nodes.{position, node_of, closing_byte};
-ghost use Rattle.index.specs.Arrays.{Arrays, arrays, text_in};
 ghost use Rattle.words.specs.Words.{rank_at, occurrences_below, frequency};
-ghost use Rattle.words.specs.Ready.{node_from, Counted, Ready, WordsOf};
+ghost use Rattle.words.specs.Ready.{WordsOf};
 ghost use Rattle.words.specs.Steps.{StepIn, BelowOf};
-ghost use Rattle.words.specs.Texts.{text_of, vocabulary_of};
+ghost use Rattle.words.specs.Texts.{text_of, vocabulary_of, bytes_of_node};
 
 pub mod indexed_text;
 
-use index::Shape;
+use directory::CountedBytes;
 use indexed_text::IndexedText;
 use tree::{Place, Position};
 
@@ -30,15 +28,6 @@ pub fn text_length(lengths: &[u32]) -> usize
     lengths[0] as usize
 }
 
-// The byte at a position of a node.
-fn byte_at(bytes: &[u8], starts: &[u32], node: usize, at: Position) -> u8
-    requires { (node < length starts.now) × (at.0 < length (node_from bytes.now starts.now node)) }
-    ensures { result ≡ get_or (node_from bytes.now starts.now node) at.0 0 }
-{
-    let start = starts[node] as usize;
-    bytes[start + at.0]
-}
-
 // A step of the way from a word up to the root: a byte is looked for in a node, and stands so often
 // before it.
 #[derive(Clone, Copy)]
@@ -46,133 +35,6 @@ pub struct Step {
     pub node: usize,
     pub byte: u8,
     pub skipped: usize,
-}
-
-// The step that looks for a byte in a node.
-pub fn step_in(
-    shape: Shape,
-    bytes: &[u8],
-    superblocks: &[u32],
-    blocks: &[u16],
-    starts: &[u32],
-    node: usize,
-    byte: u8,
-) -> Step
-    requires { Counted shape bytes.now superblocks.now blocks.now starts.now node }
-    ensures { StepIn bytes.now starts.now node byte result }
-{
-    let start = starts[node] as usize;
-    let block = shape.block;
-    let per = shape.per_superblock;
-    let skipped = directory::count_below(bytes, superblocks, blocks, block, per, byte, start);
-    Step {
-        node,
-        byte,
-        skipped,
-    }
-}
-
-// How often the byte of a step stands below a position of its node: so often it stands below the
-// position in all bytes, less those before the node.
-fn count_in_step(
-    shape: Shape,
-    bytes: &[u8],
-    superblocks: &[u32],
-    blocks: &[u16],
-    starts: &[u32],
-    step: Step,
-    at: Position,
-) -> usize
-    requires { Counted shape bytes.now superblocks.now blocks.now starts.now step.node × StepIn bytes.now starts.now step.node step.byte step × (at.0 ≤ length (node_from bytes.now starts.now step.node)) }
-    ensures { result ≡ count_of step.byte (take at.0 (node_from bytes.now starts.now step.node)) }
-{
-    let node = step.node;
-    let start = starts[node] as usize;
-    let block = shape.block;
-    let per = shape.per_superblock;
-    let byte = step.byte;
-    let below = directory::count_below(bytes, superblocks, blocks, block, per, byte, start + at.0);
-    below - step.skipped
-}
-
-// How often a byte stands below a position of a node. For a byte that leads on it is the position in
-// its child.
-fn count_in_node(
-    shape: Shape,
-    bytes: &[u8],
-    superblocks: &[u32],
-    blocks: &[u16],
-    starts: &[u32],
-    node: usize,
-    byte: u8,
-    at: Position,
-) -> usize
-    requires { Counted shape bytes.now superblocks.now blocks.now starts.now node × (at.0 ≤ length (node_from bytes.now starts.now node)) }
-    ensures { result ≡ count_of byte (take at.0 (node_from bytes.now starts.now node)) }
-{
-    let step = step_in(shape, bytes, superblocks, blocks, starts, node, byte);
-    count_in_step(shape, bytes, superblocks, blocks, starts, step, at)
-}
-
-// The position in a node of a place of the text or of its end: by the position in the node's parent.
-fn position_in(
-    s: usize,
-    shape: Shape,
-    lengths: &[u32],
-    bytes: &[u8],
-    superblocks: &[u32],
-    blocks: &[u16],
-    starts: &[u32],
-    node: usize,
-    place: Place,
-) -> Position
-    requires { let a : Arrays = arrays lengths.now bytes.now superblocks.now blocks.now in Ready s shape a starts.now × (node < length lengths.now) × (place.0 ≤ length (text_in s a)) }
-    ensures { let a : Arrays = arrays lengths.now bytes.now superblocks.now blocks.now in result.0 ≡ position s node place.0 (text_in s a) }
-{
-    if node == 0 {
-        return tree::root_position(place);
-    }
-    let up = tree::parent(s, node);
-    let byte = tree::digit(s, node);
-    let at = position_in(
-        s,
-        shape,
-        lengths,
-        bytes,
-        superblocks,
-        blocks,
-        starts,
-        up,
-        place,
-    );
-    Position(count_in_node(shape, bytes, superblocks, blocks, starts, up, byte, at))
-}
-
-// The rank at a place of the text: down from the root, to the byte that closes the word.
-pub fn word_at(
-    s: usize,
-    shape: Shape,
-    lengths: &[u32],
-    bytes: &[u8],
-    superblocks: &[u32],
-    blocks: &[u16],
-    starts: &[u32],
-    place: Place,
-) -> u32
-    requires { let a : Arrays = arrays lengths.now bytes.now superblocks.now blocks.now in Ready s shape a starts.now × (place.0 < length (text_in s a)) }
-    ensures { let a : Arrays = arrays lengths.now bytes.now superblocks.now blocks.now in result ≡ rank_at (text_in s a) place.0 }
-{
-    let least = 256 - s;
-    let mut node = 0;
-    let mut at = tree::root_position(place);
-    let mut byte = byte_at(bytes, starts, node, at);
-    while (byte as usize) < least {
-        let below = count_in_node(shape, bytes, superblocks, blocks, starts, node, byte, at);
-        node = tree::child(s, node, byte);
-        at = Position(below);
-        byte = byte_at(bytes, starts, node, at);
-    }
-    (s * node + (byte as usize - least)) as u32
 }
 
 // How often a rank stands below a place, and the position of the place in the node where its codeword
@@ -183,121 +45,7 @@ pub struct Below {
     pub count: usize,
 }
 
-// How often a rank stands below a place of the text, or in the whole text at its end: so often its
-// closing byte stands below the position of the place in the node where its codeword ends.
-pub fn count_below(
-    s: usize,
-    shape: Shape,
-    lengths: &[u32],
-    bytes: &[u8],
-    superblocks: &[u32],
-    blocks: &[u16],
-    starts: &[u32],
-    rank: usize,
-    place: Place,
-) -> Below
-    requires { let a : Arrays = arrays lengths.now bytes.now superblocks.now blocks.now in Ready s shape a starts.now × (rank < shape.vocabulary) × (place.0 ≤ length (text_in s a)) }
-    ensures { let a : Arrays = arrays lengths.now bytes.now superblocks.now blocks.now in BelowOf s a.bytes starts.now rank result × (result.count ≡ occurrences_below (text_in s a) rank place.0) }
-{
-    let node = tree::node_of(s, rank);
-    let byte = tree::closing_byte(s, rank);
-    let at = position_in(
-        s,
-        shape,
-        lengths,
-        bytes,
-        superblocks,
-        blocks,
-        starts,
-        node,
-        place,
-    );
-    let count = count_in_node(shape, bytes, superblocks, blocks, starts, node, byte, at);
-    Below { at, count }
-}
-
-// The number alone.
-pub fn occurrences_below(
-    s: usize,
-    shape: Shape,
-    lengths: &[u32],
-    bytes: &[u8],
-    superblocks: &[u32],
-    blocks: &[u16],
-    starts: &[u32],
-    rank: usize,
-    place: Place,
-) -> usize
-    requires { let a : Arrays = arrays lengths.now bytes.now superblocks.now blocks.now in Ready s shape a starts.now × (rank < shape.vocabulary) × (place.0 ≤ length (text_in s a)) }
-    ensures { let a : Arrays = arrays lengths.now bytes.now superblocks.now blocks.now in result ≡ occurrences_below (text_in s a) rank place.0 }
-{
-    count_below(
-        s,
-        shape,
-        lengths,
-        bytes,
-        superblocks,
-        blocks,
-        starts,
-        rank,
-        place,
-    )
-    .count
-}
-
-// How often a rank stands in the text, by the first step of its way: so often its closing byte stands
-// in its node.
-pub fn frequency_by(
-    s: usize,
-    shape: Shape,
-    lengths: &[u32],
-    bytes: &[u8],
-    superblocks: &[u32],
-    blocks: &[u16],
-    starts: &[u32],
-    rank: usize,
-    first: Step,
-) -> usize
-    requires { let a : Arrays = arrays lengths.now bytes.now superblocks.now blocks.now in Ready s shape a starts.now × (rank < shape.vocabulary) × StepIn a.bytes starts.now (node_of s rank) (closing_byte s rank) first }
-    ensures { let a : Arrays = arrays lengths.now bytes.now superblocks.now blocks.now in result ≡ frequency (text_in s a) rank }
-{
-    let node = first.node;
-    let size = lengths[node] as usize;
-    let end = Position(size);
-    count_in_step(shape, bytes, superblocks, blocks, starts, first, end)
-}
-
-// How often a rank stands in the text.
-pub fn frequency(
-    s: usize,
-    shape: Shape,
-    lengths: &[u32],
-    bytes: &[u8],
-    superblocks: &[u32],
-    blocks: &[u16],
-    starts: &[u32],
-    rank: usize,
-) -> usize
-    requires { let a : Arrays = arrays lengths.now bytes.now superblocks.now blocks.now in Ready s shape a starts.now × (rank < shape.vocabulary) }
-    ensures { let a : Arrays = arrays lengths.now bytes.now superblocks.now blocks.now in result ≡ frequency (text_in s a) rank }
-{
-    let node = tree::node_of(s, rank);
-    let byte = tree::closing_byte(s, rank);
-    let first = step_in(shape, bytes, superblocks, blocks, starts, node, byte);
-    frequency_by(
-        s,
-        shape,
-        lengths,
-        bytes,
-        superblocks,
-        blocks,
-        starts,
-        rank,
-        first,
-    )
-}
-
-impl IndexedText<'_> {
+impl<'a> IndexedText<'a> {
     // The number of words of the text.
     pub fn length(&self) -> usize
         ensures { result ≡ length (text_of self.now) }
@@ -305,22 +53,35 @@ impl IndexedText<'_> {
         text_length(self.index.lengths)
     }
 
-    // The rank at a place of the text.
-    pub fn word_at(&self, place: Place) -> u32
-        requires { place.0 < length (text_of self.now) }
-        ensures { result ≡ rank_at (text_of self.now) place.0 }
+    // The bytes of its nodes with their directory.
+    pub fn counted(&self) -> CountedBytes<'a>
+        ensures { result.bytes.now ≡ self.now.index.bytes.now }
     {
         let index = self.index;
-        word_at(
-            index.s,
-            index.shape,
-            index.lengths,
-            index.bytes,
-            index.superblocks,
-            index.blocks,
-            self.starts,
-            place,
-        )
+        CountedBytes {
+            bytes: index.bytes,
+            superblocks: index.superblocks,
+            blocks: index.blocks,
+            block: index.shape.block,
+            per: index.shape.per_superblock,
+        }
+    }
+
+    // Where a node starts in the bytes.
+    pub fn start_of(&self, node: usize) -> usize
+        requires { node < length self.now.index.lengths.now }
+        ensures { (result ≡ get_or self.now.starts.now node 0) × (result ≤ length self.now.index.bytes.now) }
+    {
+        self.starts[node] as usize
+    }
+
+    // The byte at a position of a node.
+    fn byte_at(&self, node: usize, at: Position) -> u8
+        requires { (node < length self.now.index.lengths.now) × (at.0 < length (bytes_of_node self.now node)) }
+        ensures { result ≡ get_or (bytes_of_node self.now node) at.0 0 }
+    {
+        let start = self.start_of(node);
+        self.index.bytes[start + at.0]
     }
 
     // The step that looks for a byte in a node.
@@ -328,36 +89,81 @@ impl IndexedText<'_> {
         requires { node < length self.now.index.lengths.now }
         ensures { StepIn self.now.index.bytes.now self.now.starts.now node byte result }
     {
-        let index = self.index;
-        step_in(
-            index.shape,
-            index.bytes,
-            index.superblocks,
-            index.blocks,
-            self.starts,
+        let start = self.start_of(node);
+        let skipped = self.counted().count_below(byte, start);
+        Step {
             node,
             byte,
-        )
+            skipped,
+        }
     }
 
-    // How often a rank stands below a place of the text, or in the whole text at its end, and the
-    // position of the place in the node where its codeword ends.
+    // How often the byte of a step stands below a position of its node: so often it stands below the
+    // position in all bytes, less those before the node.
+    fn count_in_step(&self, step: Step, at: Position) -> usize
+        requires { (step.node < length self.now.index.lengths.now) × StepIn self.now.index.bytes.now self.now.starts.now step.node step.byte step × (at.0 ≤ length (bytes_of_node self.now step.node)) }
+        ensures { result ≡ count_of step.byte (take at.0 (bytes_of_node self.now step.node)) }
+    {
+        let start = self.start_of(step.node);
+        let below = self.counted().count_below(step.byte, start + at.0);
+        below - step.skipped
+    }
+
+    // How often a byte stands below a position of a node. For a byte that leads on it is the position
+    // in its child.
+    fn count_in_node(&self, node: usize, byte: u8, at: Position) -> usize
+        requires { (node < length self.now.index.lengths.now) × (at.0 ≤ length (bytes_of_node self.now node)) }
+        ensures { result ≡ count_of byte (take at.0 (bytes_of_node self.now node)) }
+    {
+        let step = self.step_in(node, byte);
+        self.count_in_step(step, at)
+    }
+
+    // The position in a node of a place of the text or of its end: by the position in the node's
+    // parent.
+    fn position_in(&self, node: usize, place: Place) -> Position
+        requires { (node < length self.now.index.lengths.now) × (place.0 ≤ length (text_of self.now)) }
+        ensures { result.0 ≡ position self.now.index.s node place.0 (text_of self.now) }
+    {
+        if node == 0 {
+            return tree::root_position(place);
+        }
+        let up = tree::parent(self.index.s, node);
+        let byte = tree::digit(self.index.s, node);
+        let at = self.position_in(up, place);
+        Position(self.count_in_node(up, byte, at))
+    }
+
+    // The rank at a place of the text: down from the root, to the byte that closes the word.
+    pub fn word_at(&self, place: Place) -> u32
+        requires { place.0 < length (text_of self.now) }
+        ensures { result ≡ rank_at (text_of self.now) place.0 }
+    {
+        let s = self.index.s;
+        let least = 256 - s;
+        let mut node = 0;
+        let mut at = tree::root_position(place);
+        let mut byte = self.byte_at(node, at);
+        while usize::from(byte) < least {
+            let below = self.count_in_node(node, byte, at);
+            node = tree::child(s, node, byte);
+            at = Position(below);
+            byte = self.byte_at(node, at);
+        }
+        (s * node + (usize::from(byte) - least)) as u32
+    }
+
+    // How often a rank stands below a place of the text, or in the whole text at its end: so often its
+    // closing byte stands below the position of the place in the node where its codeword ends.
     pub fn count_below(&self, rank: usize, place: Place) -> Below
         requires { (rank < vocabulary_of self.now) × (place.0 ≤ length (text_of self.now)) }
         ensures { BelowOf self.now.index.s self.now.index.bytes.now self.now.starts.now rank result × (result.count ≡ occurrences_below (text_of self.now) rank place.0) }
     {
-        let index = self.index;
-        count_below(
-            index.s,
-            index.shape,
-            index.lengths,
-            index.bytes,
-            index.superblocks,
-            index.blocks,
-            self.starts,
-            rank,
-            place,
-        )
+        let node = tree::node_of(self.index.s, rank);
+        let byte = tree::closing_byte(self.index.s, rank);
+        let at = self.position_in(node, place);
+        let count = self.count_in_node(node, byte, at);
+        Below { at, count }
     }
 
     // The number alone.
@@ -368,23 +174,14 @@ impl IndexedText<'_> {
         self.count_below(rank, place).count
     }
 
-    // How often a rank stands in the text, by the first step of its way.
+    // How often a rank stands in the text, by the first step of its way: so often its closing byte
+    // stands in its node.
     pub fn frequency_by(&self, rank: usize, first: Step) -> usize
         requires { (rank < vocabulary_of self.now) × StepIn self.now.index.bytes.now self.now.starts.now (node_of self.now.index.s rank) (closing_byte self.now.index.s rank) first }
         ensures { result ≡ frequency (text_of self.now) rank }
     {
-        let index = self.index;
-        frequency_by(
-            index.s,
-            index.shape,
-            index.lengths,
-            index.bytes,
-            index.superblocks,
-            index.blocks,
-            self.starts,
-            rank,
-            first,
-        )
+        let size = self.index.lengths[first.node] as usize;
+        self.count_in_step(first, Position(size))
     }
 
     // How often a rank stands in the text.
@@ -392,16 +189,9 @@ impl IndexedText<'_> {
         requires { rank < vocabulary_of self.now }
         ensures { result ≡ frequency (text_of self.now) rank }
     {
-        let index = self.index;
-        frequency(
-            index.s,
-            index.shape,
-            index.lengths,
-            index.bytes,
-            index.superblocks,
-            index.blocks,
-            self.starts,
-            rank,
-        )
+        let node = tree::node_of(self.index.s, rank);
+        let byte = tree::closing_byte(self.index.s, rank);
+        let first = self.step_in(node, byte);
+        self.frequency_by(rank, first)
     }
 }

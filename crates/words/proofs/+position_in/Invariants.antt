@@ -1,5 +1,0 @@
--- `words::position_in`: the number of the node falls.
-use Rattle.words.proofs.+position_in.Given as goal
-
-abbrev pub decreases-position_in : goal.decreases-position_in
-decreases-position_in l = l.node
