@@ -1,5 +1,5 @@
 -- No place before the first pair is a hit, and a place with a pair is tested.
-use Rattle.std.proofs.Common.{◌-◌, ◌≡◌, ℕ, ◌+◌, ◌≤◌, ◌<◌, false, length, take, drop, get_or, refl, sym, ap, ◌∙◌, inl, inr, ◌⊎◌, arith, length-take, length-drop}
+use Rattle.std.proofs.Common.{◌-◌, ◌≡◌, ℕ, ◌+◌, ◌≤◌, ◌<◌, false, length, take, drop, get_or, refl, sym, ap, ◌∙◌, inl, inr, ◌⊎◌, arith, length-take}
 use Rattle.base.proofs.Tests.{below_or_not}
 use Rattle.directory.specs.Counters.{max_bytes}
 use Rattle.words.specs.Texts.{text_of}
