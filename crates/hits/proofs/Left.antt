@@ -1,6 +1,6 @@
 -- What one search takes of the hits that are left. Assumes nothing.
-use Rattle.std.proofs.Common.{◌≡◌, ℕ, ◌≤◌, Bool, Option, Some, None, [], ◌∷◌, length, MatchOption, refl, sym, ap, arith}
-use Rattle.std.specs.Iterator.{MakesProgress, item_count}
+use Rattle.std.proofs.Common.{Bool, List, MatchOption, None, Option, Some, [], ap, arith, length, map, refl, sym, ℕ, ◌++◌, ◌∙◌, ◌∷◌, ◌≡◌, ◌≤◌}
+use Rattle.std.specs.Iterator.{MakesProgress, item_count, Yields, YieldsFirstBy}
 use native.Mathlib.Nat.{sub_self}
 use Rattle.tree.specs.declared.Place.{Place}
 use Rattle.hits.specs.declared.Hits.{Hits}
@@ -25,3 +25,8 @@ goes_on s (Some q) x on e a =
     let inside : x.place.0 ≤ s.end.0 = omega (arith, hit_below (is_hit s.query.now) s.search.place.0 s.end.0 q (sym e)) in
     let shorter = ap length (taken (is_hit s.query.now) s.search.place.0 s.end.0 (Some q) x.place.0 e a) in
     record { on = λ h. ((on, inside), tt, omega (arith, shorter)); keeps = (on, inside); rests = λ h. tt }
+
+-- those of which calls have taken some are these and the ones that are left
+pub split : (s t : Hits) (xs : List Place) → Yields (YieldsFirstBy (λ (place : Place). place.0) hits_left) s xs t → hits_left s ≡ map (λ (place : Place). place.0) xs ++ hits_left t
+split s t [] y = ap hits_left y
+split s t (x ∷ xs) y = y.1 ∙ ap (λ (qs : List ℕ). x.0 ∷ qs) (split y.0 t xs y.2)
