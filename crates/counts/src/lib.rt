@@ -1,202 +1,79 @@
 // How often a phrase stands inside one document, and how often a word has another at an offset in
-// one: short loops over the search for the next hit.
+// one: the number of the hits of a query.
 //
-// No function of this crate is an entry: each requires that the four slices have passed the check,
-// and `starts` is the table that `starts::node_starts` fills.
+// No function of this crate is an entry: what each requires of the index is what an `IndexedText`
+// has.
 #![tactic(auto)]
 
 ghost use Rattle.std.specs.Prelude.{◌≡◌, true, suc, ◌≤◌, ◌<◌, nat_abs, length};
-ghost use Rattle.base.specs.Texts.{max_offset};
-ghost use Rattle.index.specs.Arrays.{Arrays, arrays, text_in};
-ghost use Rattle.words.specs.Ready.{Ready};
+ghost use Rattle.base.specs.Lists.{Below};
+ghost use Rattle.base.specs.Texts.{max_phrase, max_offset};
+ghost use Rattle.words.specs.Texts.{text_of, vocabulary_of};
 ghost use Rattle.documents.specs.Documents.{is_ascending, places_in, neighbours_in};
-ghost use Rattle.matching.specs.Sought.{hit_in};
-ghost use Rattle.matching.specs.Searching.{Searchable, Searching, Paired};
 ghost use Rattle.hits.specs.Hits.{hits_between};
+ghost use Rattle.hits.specs.Queries.{is_hit};
 
-use hits::Hit;
-use index::Shape;
 use matching::Sought;
+use matching::query::Query;
 use tree::Place;
+use words::indexed_text::IndexedText;
 
 // How often what is sought stands inside one document, at the places from 0 to the end of the text.
-fn count_hits(
-    s: usize,
-    shape: Shape,
-    lengths: &[u32],
-    bytes: &[u8],
-    superblocks: &[u32],
-    blocks: &[u16],
-    starts: &[u32],
-    documents: &[u32],
-    firsts: &[u8],
-    words: &[u32],
-    sought: Sought,
-) -> usize
-    requires { let a : Arrays = arrays lengths.now bytes.now superblocks.now blocks.now in Searching s shape a starts.now firsts.now words.now × Paired words.now sought × (is_ascending documents.now ≡ true) }
-    ensures { let a : Arrays = arrays lengths.now bytes.now superblocks.now blocks.now in result ≡ length (hits_between (hit_in documents.now (text_in s a) words.now sought) 0 (suc (length (text_in s a)))) }
+fn count_hits(query: &Query) -> usize
+    ensures { result ≡ length (hits_between (is_hit query.now) 0 (suc (length (text_of query.now.text)))) }
 {
-    let end = Place(words::text_length(lengths) + 1);
-    let mut count: usize = 0;
-    let mut search = hits::begin(
-        s,
-        shape,
-        lengths,
-        bytes,
-        superblocks,
-        blocks,
-        starts,
-        words,
-        sought,
-        Place(0),
-    );
-    loop {
-        let reached = hits::next_hit(
-            s,
-            shape,
-            lengths,
-            bytes,
-            superblocks,
-            blocks,
-            starts,
-            documents,
-            firsts,
-            words,
-            sought,
-            search,
-            end,
-        );
-        let hit = reached.hit;
-        let Hit::At(_) = hit else {
-            return count;
-        };
-        count += 1;
-        let later = reached.search;
-        search = later;
-    }
+    hits::hits_from(query, Place(0)).count()
 }
 
 // How often a phrase stands inside one document; a phrase of one word as often as the word.
-pub fn count_phrase(
-    s: usize,
-    shape: Shape,
-    lengths: &[u32],
-    bytes: &[u8],
-    superblocks: &[u32],
-    blocks: &[u16],
-    starts: &[u32],
-    documents: &[u32],
-    words: &[u32],
-) -> usize
-    requires { let a : Arrays = arrays lengths.now bytes.now superblocks.now blocks.now in Searchable s shape a starts.now words.now × (is_ascending documents.now ≡ true) }
-    ensures { let a : Arrays = arrays lengths.now bytes.now superblocks.now blocks.now in result ≡ length (places_in documents.now (text_in s a) words.now) }
+pub fn count_phrase(text: &IndexedText, documents: &[u32], words: &[u32]) -> usize
+    requires { (1 ≤ length words.now) × (length words.now ≤ max_phrase) × Below (vocabulary_of text.now) words.now × (is_ascending documents.now ≡ true) }
+    ensures { result ≡ length (places_in documents.now (text_of text.now) words.now) }
 {
     let m = words.len();
     if m == 1 {
-        let only = words[0] as usize;
-        return words::frequency(s, shape, lengths, bytes, superblocks, blocks, starts, only);
+        return text.frequency(words[0] as usize);
     }
     let mut table = [0u8; 16];
-    matching::first_bytes(s, words, &mut table);
-    count_hits(
-        s,
-        shape,
-        lengths,
-        bytes,
-        superblocks,
-        blocks,
-        starts,
+    matching::first_bytes(text.index.s, words, &mut table);
+    count_hits(&Query {
+        text: *text,
         documents,
-        &table[..m],
+        firsts: &table[..m],
         words,
-        Sought::Phrase,
-    )
+        sought: Sought::Phrase,
+    })
 }
 
 // How often a word has another at an offset in one document.
-fn count_pair(
-    s: usize,
-    shape: Shape,
-    lengths: &[u32],
-    bytes: &[u8],
-    superblocks: &[u32],
-    blocks: &[u16],
-    starts: &[u32],
-    documents: &[u32],
-    w: u32,
-    v: u32,
-    offset: i32,
-) -> usize
-    requires { let a : Arrays = arrays lengths.now bytes.now superblocks.now blocks.now in Ready s shape a starts.now × (w < shape.vocabulary) × (v < shape.vocabulary) × (is_ascending documents.now ≡ true) }
-    ensures { let a : Arrays = arrays lengths.now bytes.now superblocks.now blocks.now in result ≡ neighbours_in documents.now (text_in s a) w v offset }
+fn count_pair(text: &IndexedText, documents: &[u32], w: u32, v: u32, offset: i32) -> usize
+    requires { (w < vocabulary_of text.now) × (v < vocabulary_of text.now) × (is_ascending documents.now ≡ true) }
+    ensures { result ≡ neighbours_in documents.now (text_of text.now) w v offset }
 {
     let pair = [w, v];
     let mut table = [0u8; 2];
-    matching::first_bytes(s, &pair, &mut table);
-    count_hits(
-        s,
-        shape,
-        lengths,
-        bytes,
-        superblocks,
-        blocks,
-        starts,
+    matching::first_bytes(text.index.s, &pair, &mut table);
+    count_hits(&Query {
+        text: *text,
         documents,
-        &table,
-        &pair,
-        Sought::Pair(offset),
-    )
+        firsts: &table,
+        words: &pair,
+        sought: Sought::Pair(offset),
+    })
 }
 
 // How often a word has another at an offset in one document: the first of the pair sought is the
 // rarer of the two, from which the other stands at the offset or at the negated one.
-pub fn neighbours(
-    s: usize,
-    shape: Shape,
-    lengths: &[u32],
-    bytes: &[u8],
-    superblocks: &[u32],
-    blocks: &[u16],
-    starts: &[u32],
-    documents: &[u32],
-    w: u32,
-    v: u32,
-    offset: i32,
-) -> usize
-    requires { let a : Arrays = arrays lengths.now bytes.now superblocks.now blocks.now in Ready s shape a starts.now × (w < shape.vocabulary) × (v < shape.vocabulary) × (nat_abs offset ≤ max_offset) × (is_ascending documents.now ≡ true) }
-    ensures { let a : Arrays = arrays lengths.now bytes.now superblocks.now blocks.now in result ≡ neighbours_in documents.now (text_in s a) w v offset }
+pub fn neighbours(text: &IndexedText, documents: &[u32], w: u32, v: u32, offset: i32) -> usize
+    requires { (w < vocabulary_of text.now) × (v < vocabulary_of text.now) × (nat_abs offset ≤ max_offset) × (is_ascending documents.now ≡ true) }
+    ensures { result ≡ neighbours_in documents.now (text_of text.now) w v offset }
 {
-    let one = w as usize;
-    let other = v as usize;
-    let first = words::frequency(s, shape, lengths, bytes, superblocks, blocks, starts, one);
-    let second = words::frequency(s, shape, lengths, bytes, superblocks, blocks, starts, other);
+    let first = text.frequency(w as usize);
+    let second = text.frequency(v as usize);
     if first <= second {
-        return count_pair(
-            s,
-            shape,
-            lengths,
-            bytes,
-            superblocks,
-            blocks,
-            starts,
-            documents,
-            w,
-            v,
-            offset,
-        );
+        count_pair(text, documents, w, v, offset)
+    } else {
+        let back = phrases::negated(offset);
+        count_pair(text, documents, v, w, back)
     }
-    let back = phrases::negated(offset);
-    count_pair(
-        s,
-        shape,
-        lengths,
-        bytes,
-        superblocks,
-        blocks,
-        starts,
-        documents,
-        v,
-        w,
-        back,
-    )
 }

@@ -1,32 +1,28 @@
-// How often a phrase stands in each document: a short loop over the search for the next hit, which
-// adds each hit to the count of the document that holds it.
+// How often a phrase stands in each document: each hit of the phrase is added to the count of the
+// document that holds it.
 //
-// No function of this crate is an entry: `count_by_document` requires that the four slices have
-// passed the check, and that the document starts keep the rules.
+// No function of this crate is an entry: `count_by_document` requires of the index what an
+// `IndexedText` has, and that the document starts keep the rules.
 #![tactic(auto)]
 
 ghost use Rattle.std.specs.Prelude.{◌≡◌, true, map, ◌+◌, ◌-◌, ◌≤◌, ◌<◌, length, get_or, set};
-ghost use Rattle.base.specs.Lists.{range_from};
+ghost use Rattle.base.specs.Lists.{Below, range_from};
+ghost use Rattle.base.specs.Texts.{max_phrase};
 ghost use Rattle.base.specs.Answers.{front};
-ghost use Rattle.index.specs.Arrays.{Arrays, arrays, text_in};
+ghost use Rattle.words.specs.Texts.{text_of, vocabulary_of};
 ghost use Rattle.documents.specs.Documents.{is_ascending, are_starts, document_of, counts_by_document};
-ghost use Rattle.matching.specs.Searching.{Searching};
 
-use hits::Hit;
-use index::Shape;
 use matching::Sought;
+use matching::query::Query;
 use tree::Place;
+use words::indexed_text::IndexedText;
 
 // Writes 0 to the first so many elements of a slice.
 pub fn clear_counts(counts: &mut [u32], size: usize)
     requires { size ≤ length counts.old }
     ensures { counts.new ≡ front (map (λ k. 0) (range_from 0 size)) counts.old }
 {
-    let mut i: usize = 0;
-    while i < size {
-        counts[i] = 0;
-        i += 1;
-    }
+    counts[..size].fill(0);
 }
 
 // Adds 1 to the count of the document that holds a place.
@@ -39,59 +35,23 @@ fn count_place(documents: &[u32], place: Place, counts: &mut [u32])
     counts[at] += 1;
 }
 
-// Writes how often a phrase with these first bytes stands in each document to the front of a slice.
-pub fn count_by_document(
-    s: usize,
-    shape: Shape,
-    lengths: &[u32],
-    bytes: &[u8],
-    superblocks: &[u32],
-    blocks: &[u16],
-    starts: &[u32],
-    documents: &[u32],
-    firsts: &[u8],
-    words: &[u32],
-    counts: &mut [u32],
-)
-    requires { let a : Arrays = arrays lengths.now bytes.now superblocks.now blocks.now in Searching s shape a starts.now firsts.now words.now × (are_starts (length (text_in s a)) documents.now ≡ true) × (length documents.now ≤ length counts.old) }
-    ensures { let a : Arrays = arrays lengths.now bytes.now superblocks.now blocks.now in counts.new ≡ front (counts_by_document documents.now (text_in s a) words.now) counts.old }
+// Writes how often a phrase stands in each document to the front of a slice.
+pub fn count_by_document(text: &IndexedText, documents: &[u32], words: &[u32], counts: &mut [u32])
+    requires { (1 ≤ length words.now) × (length words.now ≤ max_phrase) × Below (vocabulary_of text.now) words.now
+        × (are_starts (length (text_of text.now)) documents.now ≡ true) × (length documents.now ≤ length counts.old) }
+    ensures { counts.new ≡ front (counts_by_document documents.now (text_of text.now) words.now) counts.old }
 {
-    let end = Place(words::text_length(lengths) + 1);
     clear_counts(counts, documents.len());
-    let mut search = hits::begin(
-        s,
-        shape,
-        lengths,
-        bytes,
-        superblocks,
-        blocks,
-        starts,
+    let mut table = [0u8; 16];
+    matching::first_bytes(text.index.s, words, &mut table);
+    let query = Query {
+        text: *text,
+        documents,
+        firsts: &table[..words.len()],
         words,
-        Sought::Phrase,
-        Place(0),
-    );
-    loop {
-        let reached = hits::next_hit(
-            s,
-            shape,
-            lengths,
-            bytes,
-            superblocks,
-            blocks,
-            starts,
-            documents,
-            firsts,
-            words,
-            Sought::Phrase,
-            search,
-            end,
-        );
-        let hit = reached.hit;
-        let Hit::At(place) = hit else {
-            return;
-        };
+        sought: Sought::Phrase,
+    };
+    for place in hits::hits_from(&query, Place(0)) {
         count_place(documents, place, counts);
-        let later = reached.search;
-        search = later;
     }
 }

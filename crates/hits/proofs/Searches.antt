@@ -32,7 +32,7 @@ use Rattle.matching.specs.Searching.{Searching}
 use Rattle.matching.proofs.FirstBytes.{first_byte_at}
 use Rattle.anchors.specs.declared.Second.{Second}
 use Rattle.anchors.specs.Anchors.{AnchorOf}
-use Rattle.hits.specs.declared.Hit.{Hit}
+use Rattle.std.specs.Prelude.{Option}
 use Rattle.hits.specs.declared.Search.{Search}
 use Rattle.hits.specs.Hits.{least_hit}
 use Rattle.hits.specs.Searches.{Sides, SearchFor, moved_to, place_after, Reaches}
@@ -124,7 +124,7 @@ no_hit {s} {shape} {a} {starts} {firsts} {words} h documents {sought} {anchor} {
 
 -- a search that has looked up to an end and gone on from there
 pub reaches : {s : ℕ} {shape : Shape} {a : Arrays} {starts documents words : List ℕ} {sought : Sought} (x : Search) → SearchFor s shape a starts words sought x
-    → (end : ℕ) (hit : Hit) (y : Search) (place : Place) (until : ℕ) (track : Track) → y ≡ moved_to x place until track
+    → (end : ℕ) (hit : Option Place) (y : Search) (place : Place) (until : ℕ) (track : Track) → y ≡ moved_to x place until track
     → hit ≡ least_hit (hit_in documents (text_in s a) words sought) x.place.0 end
     → TrackOf s a.bytes starts x.rank track
     → ((p : ℕ) → place.0 + x.anchor ≤ p → until ≤ p → track.ordinal ≤ count_of x.rank (take p (text_in s a)))

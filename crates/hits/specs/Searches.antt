@@ -1,5 +1,5 @@
 -- Where a search is: what a call of `next_hit` is handed, and what it hands back. Callers hand it on.
-use Rattle.std.specs.Prelude.{ℕ, ◌+◌, ◌≤◌, ◌<◌, ◌≡◌, Bool, true, false, List, length, take, get_or}
+use Rattle.std.specs.Prelude.{ℕ, ◌+◌, ◌≤◌, ◌<◌, ◌≡◌, Bool, true, false, Option, Some, None, List, length, take, get_or}
 use Rattle.base.specs.Lists.{count_of}
 use Rattle.tree.specs.declared.Place.{Place}
 use Rattle.index.specs.declared.Shape.{Shape}
@@ -12,8 +12,6 @@ use Rattle.matching.specs.Sought.{hit_at, hit_in}
 use Rattle.matching.specs.Searching.{Paired}
 use Rattle.anchors.specs.declared.Second.{Second}
 use Rattle.anchors.specs.Seconds.{SecondOf}
-use Rattle.hits.specs.declared.Hit.{Hit}
-use Rattle.hits.specs.declared.Hit.TheVariants.{At, Nowhere}
 use Rattle.hits.specs.declared.Search.{Search}
 use Rattle.hits.specs.declared.Reached.{Reached}
 use Rattle.hits.specs.Hits.{least_hit}
@@ -48,10 +46,10 @@ pub record InPart (n anchor : ℕ) (second : Second) (from to : ℕ) : Type 0 wh
   pub beside : from < to → to + second.there ≤ n + second.here
 
 -- the least place at which a test holds whose word i further stands in a part, or none
-abbrev pub LeastIn : (ℕ → Bool) → ℕ → ℕ → ℕ → Hit → Type 0
-LeastIn P i from to (At q) =
+abbrev pub LeastIn : (ℕ → Bool) → ℕ → ℕ → ℕ → Option Place → Type 0
+LeastIn P i from to (Some q) =
     (from ≤ q.0 + i) × (q.0 + i < to) × (P q.0 ≡ true) × ((p : ℕ) → from ≤ p + i → p < q.0 → P p ≡ false)
-LeastIn P i from to Nowhere = (p : ℕ) → from ≤ p + i → p + i < to → P p ≡ false
+LeastIn P i from to None = (p : ℕ) → from ≤ p + i → p + i < to → P p ≡ false
 
 -- a search that has gone on to another place, looking at all bytes up to a position, with another walk along its anchor
 abbrev pub moved_to : Search → Place → ℕ → Track → Search
@@ -59,9 +57,9 @@ moved_to x place until track =
     record { place = place; anchor = x.anchor; rank = x.rank; frequency = x.frequency; way = x.way; second = x.second; exact = x.exact; until = until; track = track }
 
 -- the place at which a search is after it has looked up to an end: after the hit, or at the end where there is none
-abbrev pub place_after : Hit → ℕ → ℕ
-place_after (At q) end = q.0 + 1
-place_after Nowhere end = end
+abbrev pub place_after : Option Place → ℕ → ℕ
+place_after (Some q) end = q.0 + 1
+place_after None end = end
 
 -- what a call hands back: the least hit inside one document from the place of the search on, and the search at the place after it
 pub record Reaches (s : ℕ) (shape : Shape) (a : Arrays) (starts documents words : List ℕ) (sought : Sought) (x : Search) (end : ℕ) (r : Reached) : Type 0 where

@@ -1,0 +1,26 @@
+-- Searches over a query. Callers hand them on.
+use Rattle.std.specs.Prelude.{ℕ, Bool}
+use Rattle.index.specs.Lent.{slices_of}
+use Rattle.words.specs.Texts.{text_of}
+use Rattle.matching.specs.declared.query.Query.{Query}
+use Rattle.matching.specs.Sought.{hit_in}
+use Rattle.anchors.specs.declared.Second.{Second}
+use Rattle.hits.specs.declared.Search.{Search}
+use Rattle.hits.specs.declared.Reached.{Reached}
+use Rattle.hits.specs.Searches.{Sides, SearchFor, Reaches}
+
+-- whether what is sought stands at a place inside one document
+abbrev pub is_hit : Query → ℕ → Bool
+is_hit q = hit_in q.documents.now (text_of q.text) q.words.now q.sought
+
+-- its anchor and its second word
+abbrev pub SidesIn : Query → ℕ → Second → Type 0
+SidesIn q anchor second = Sides (text_of q.text) q.words.now q.sought anchor second
+
+-- a search for it
+abbrev pub SearchIn : Query → Search → Type 0
+SearchIn q x = SearchFor q.text.index.s q.text.index.shape (slices_of q.text.index) q.text.starts.now q.words.now q.sought x
+
+-- what a search for it reaches up to an end
+abbrev pub ReachesIn : Query → Search → ℕ → Reached → Type 0
+ReachesIn q x end r = Reaches q.text.index.s q.text.index.shape (slices_of q.text.index) q.text.starts.now q.documents.now q.words.now q.sought x end r
