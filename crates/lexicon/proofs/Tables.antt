@@ -26,28 +26,6 @@ letters_rule = refl
 module _ (table : List ℕ) where
   -- ---- the four rules
 
-  -- the rules hold, one with the other
-  pub is_table_lem : length table ≡ 256 → letter_in table line_feed ≡ 0 → is_table table ≡ keeps_entries table && has_letter table
-  unfolding is_table
-  is_table_lem s c = rw (eq-eqb (length table) 256 s, eq-eqb (letter_in table line_feed) 0 c) (go (keeps_entries table))
-    where
-      go : (k : Bool) → k && true && has_letter table ≡ k && has_letter table
-      go true = refl
-      go false = refl
-
-  -- one that does not hold is enough
-  pub other_size : (length table ≡ 256 → ⊥) → is_table table ≡ false
-  unfolding is_table
-  other_size n = rw (ne_eqb (length table) 256 n)
-
-  pub line_feed_kept : (letter_in table line_feed ≡ 0 → ⊥) → is_table table ≡ false
-  unfolding is_table
-  line_feed_kept n = rw (ne_eqb (letter_in table line_feed) 0 n) (go (eqb (length table) 256 && keeps_entries table))
-    where
-      go : (k : Bool) → k && false && has_letter table ≡ false
-      go true = refl
-      go false = refl
-
   module _ (e : is_table table ≡ true) where
     three : eqb (length table) 256 && keeps_entries table && eqb (letter_in table line_feed) 0 ≡ true
     unfolding is_table
