@@ -1,17 +1,15 @@
 -- The entries of a table one by one: each is 0 or kept, and some is not 0. Assumes nothing.
-use Prim.Native.Nat.{ℕ, ◌+◌, ◌≤◌, ◌<◌}
+use Prim.Native.Nat.{ℕ, ◌<◌}
 use mathlib.Core.Path.{◌≡◌, refl, sym, ap, ◌∙◌}
 use mathlib.Core.Bool.{Bool, true, false, not, ◌&&◌, ◌||◌, false≢true}
-use mathlib.Core.Logic.{◌⊎◌, inl, inr}
 use mathlib.Core.List.{List, [], ◌∷◌}
 use Rattle.std.specs.List.{list_all, list_any}
-use native.Mathlib.Omega.{arith}
-use borrow.Author.Tests.{eqb-true, eq-eqb, ne_eqb, not-true, not-false}
+use borrow.Author.Tests.{eq-eqb, ne_eqb, not-true}
 use lib.Dec.{eqb}
 use lib.ListN.{length}
 use Rattle.base.specs.Lists.{all_pass, first_where}
 use Rattle.base.proofs.Lists.{all_at, all_of_at, all_of_pass, pass_of_all, first_where_inside, first_where_passes}
-use Rattle.base.proofs.Tests.{same_or_not, and_true, and_never, or_left, or_right, or_neither, false_of}
+use Rattle.base.proofs.Tests.{or_left, or_right, false_of}
 use Rattle.lexicon.specs.Letters.{letter_in, keeps, is_entry, keeps_entries, has_letter}
 
 module _ (table : List ℕ) where

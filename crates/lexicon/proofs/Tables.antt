@@ -5,7 +5,7 @@ use mathlib.Core.Bool.{Bool, true, false, not, ◌&&◌, ◌||◌, false≢true}
 use mathlib.Core.Logic.{◌⊎◌, inl, inr}
 use mathlib.Core.List.{List}
 use native.Mathlib.Omega.{arith}
-use borrow.Author.Tests.{eqb-true, eq-eqb, ne_eqb}
+use borrow.Author.Tests.{eqb-true, eq-eqb}
 use lib.Dec.{eqb}
 use lib.ListN.{length}
 use Rattle.base.specs.Answers.{accepted, refused, is_accepted}
@@ -25,6 +25,15 @@ letters_rule = refl
 
 module _ (table : List ℕ) where
   -- ---- the four rules
+
+  -- the rules hold, one with the other
+  pub is_table_lem : length table ≡ 256 → letter_in table line_feed ≡ 0 → is_table table ≡ keeps_entries table && has_letter table
+  unfolding is_table
+  is_table_lem s c = rw (eq-eqb (length table) 256 s, eq-eqb (letter_in table line_feed) 0 c) (go (keeps_entries table))
+    where
+      go : (k : Bool) → k && true && has_letter table ≡ k && has_letter table
+      go true = refl
+      go false = refl
 
   module _ (e : is_table table ≡ true) where
     three : eqb (length table) 256 && keeps_entries table && eqb (letter_in table line_feed) 0 ≡ true
