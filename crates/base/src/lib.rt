@@ -92,7 +92,7 @@ impl From<Result<(), Refused>> for Answer {
 pub fn least(a: usize, b: usize) -> usize
     ensures { result ≡ min a b }
 {
-    if a < b { a } else { b }
+    a.min(b)
 }
 
 // The first place of a text whose rank is not below the size of the vocabulary; the text's length
@@ -100,13 +100,7 @@ pub fn least(a: usize, b: usize) -> usize
 pub fn first_outside(text: &[u32], vocabulary: usize) -> usize
     ensures { result ≡ first_where (λ w. leb vocabulary w) text.now }
 {
-    let mut place = 0;
-    while place < text.len() {
-        let rank = text[place] as usize;
-        if vocabulary <= rank {
-            return place;
-        }
-        place += 1;
-    }
-    place
+    text.iter()
+        .position(|rank| vocabulary <= *rank as usize)
+        .unwrap_or(text.len())
 }

@@ -1,20 +1,20 @@
 -- Which calls that write and read streams are accepted, and what those then have written. Assumes nothing.
 use Prim.Native.Nat.{ℕ, ◌≤◌, ◌<◌}
-use mathlib.Core.Path.{◌≡◌, refl, sym, ap, ◌∙◌}
-use mathlib.Core.Bool.{true, false, not}
+use mathlib.Core.Path.{◌≡◌, refl, ap, ◌∙◌}
+use mathlib.Core.Bool.{true, false, cond, not, ◌||◌}
 use mathlib.Core.List.{List, [], ◌∷◌}
 use borrow.Author.Tests.{eq-eqb, lt-ltb, le-ltb, ltb-false, not-false}
-use lib.Dec.{ltb, leb, eqb}
+use lib.Dec.{ltb, leb}
 use lib.ListN.{length, take, drop}
 use lib.Seq.{take-append_seam}
-use Rattle.base.specs.declared.Answer.{Answer}
 use Rattle.base.specs.Lists.{Below, first_where}
 use Rattle.base.specs.Refusals.{refusal_vocabulary, refusal_words, refusal_text_rank, refusal_short_slice, refusal_stream}
-use Rattle.base.specs.Answers.{accepted, refused, refused_at, is_accepted, ◌⇒◌, NoneHolds, front}
+use Rattle.base.specs.Answers.{accepted, refused, refused_at, is_accepted, ◌⇒◌, NoneHolds, first_of, filled, front}
 use Rattle.base.specs.Texts.{max_words, outside, ranks_below, words_case, rank_case}
 use Rattle.base.proofs.Tests.{inside_range, range_inside}
-use Rattle.base.proofs.Answers.{first_here, first_later, none_holds, answers, filled_not, filled_front}
-use Rattle.base.proofs.Texts.{below_of_test, test_of_below}
+use Rattle.base.proofs.Answers.{first_here, first_later, none_holds, answers, filled_front}
+use Rattle.base.proofs.Texts.{below_of_test, test_of_below, rank_outside, no_rank_outside}
+use Rattle.std.proofs.lemmas.Bool.Decides.{nat_tests}
 use Rattle.dense.specs.Code.{max_vocabulary, vocabulary_case}
 use Rattle.dense.specs.Streams.{stream, is_broken, stream_text, closings, write_stream_answer, write_stream_exit, read_stream_answer, read_stream_exit}
 
@@ -60,42 +60,35 @@ writable_written s vocab t z w =
     (filled_front (write_stream_answer s vocab t z) (stream s t) z (ap is_accepted (writable_accepted s vocab t z w)))
     ∙ take-append_seam (stream s t) (drop (length (stream s t)) z)
 
--- the refusals of the call that writes, in their order
-module _ (s vocab : ℕ) (t z : List ℕ) where
-  pub write_vocabulary : outside 1 (max_vocabulary s) vocab ≡ true → write_stream_answer s vocab t z ≡ refused refusal_vocabulary
-  unfolding write_stream_answer vocabulary_case
-  write_vocabulary e = first_here _ _ _ _ e
+-- the answer of the call that writes, case by case, and what it leaves
+pub write_answer_is : (s vocab : ℕ) (t z : List ℕ) →
+    write_stream_answer s vocab t z
+    ≡ cond (ltb vocab 1 || ltb (max_vocabulary s) vocab) (refused refusal_vocabulary)
+    (cond (ltb max_words (length t)) (refused refusal_words)
+    (cond (not (ranks_below vocab t)) (refused_at refusal_text_rank (first_where (λ (w : ℕ). leb vocab w) t))
+    (cond (ltb (length z) (length (stream s t))) (refused refusal_short_slice) (accepted (length (stream s t))))))
+unfolding write_stream_answer vocabulary_case words_case rank_case outside first_of
+write_answer_is s vocab t z = refl
 
-  module _ (vocabulary : outside 1 (max_vocabulary s) vocab ≡ false) where
-    pub write_words_lem : max_words < length t → write_stream_answer s vocab t z ≡ refused refusal_words
-    unfolding write_stream_answer vocabulary_case words_case
-    write_words_lem h = first_later _ _ _ _ vocabulary ∙ first_here _ _ _ _ (lt-ltb max_words (length t) h)
+pub write_exit_is : (s vocab : ℕ) (t z : List ℕ) → write_stream_exit s vocab t z ≡ cond (is_accepted (write_stream_answer s vocab t z)) (front (stream s t) z) z
+unfolding write_stream_exit filled
+write_exit_is s vocab t z = refl
 
-    module _ (words : length t ≤ max_words) where
-      pub write_rank : ranks_below vocab t ≡ false → write_stream_answer s vocab t z ≡ refused_at refusal_text_rank (first_where (λ (w : ℕ). leb vocab w) t)
-      unfolding write_stream_answer vocabulary_case words_case rank_case
-      write_rank e = first_later _ _ _ _ vocabulary ∙ first_later _ _ _ _ (le-ltb max_words (length t) words) ∙ first_here _ _ _ _ (ap not e)
+pub ruleset write_cases = (write_answer_is, write_exit_is, rank_outside, no_rank_outside, nat_tests)
 
-      pub write_short : ranks_below vocab t ≡ true → length z < length (stream s t) → write_stream_answer s vocab t z ≡ refused refusal_short_slice
-      unfolding write_stream_answer vocabulary_case words_case rank_case
-      write_short e h =
-          first_later _ _ _ _ vocabulary ∙ first_later _ _ _ _ (le-ltb max_words (length t) words) ∙ first_later _ _ _ _ (ap not e)
-          ∙ first_here _ _ _ _ (lt-ltb (length z) (length (stream s t)) h)
+-- the same of the call that reads
+pub read_answer_is : (s : ℕ) (bytes z : List ℕ) →
+    read_stream_answer s bytes z
+    ≡ cond (ltb max_words (closings s bytes)) (refused refusal_words)
+    (cond (ltb (length z) (closings s bytes)) (refused refusal_short_slice) (cond (is_broken s bytes) (refused refusal_stream) (accepted (closings s bytes))))
+unfolding read_stream_answer words_case first_of
+read_answer_is s bytes z = refl
 
-  -- a refused call returns the answer and leaves the slice
-  pub write_refused_lem : (number at : ℕ) → eqb number 0 ≡ false → write_stream_answer s vocab t z ≡ refused_at number at
-      → (r : Answer) → r ≡ refused_at number at → (r ≡ write_stream_answer s vocab t z) × (z ≡ write_stream_exit s vocab t z)
-  unfolding write_stream_exit
-  write_refused_lem number at n e r q = (q ∙ sym e, sym (filled_not (write_stream_answer s vocab t z) (stream s t) z (ap is_accepted e ∙ n)))
+pub read_exit_is : (s : ℕ) (bytes z : List ℕ) → read_stream_exit s bytes z ≡ cond (is_accepted (read_stream_answer s bytes z)) (front (stream_text s bytes) z) z
+unfolding read_stream_exit filled
+read_exit_is s bytes z = refl
 
-  -- an accepted call returns the number of bytes and has the stream in front
-  pub write_accepted : Writable s vocab t z → (r : Answer) (bytes : List ℕ) → r ≡ accepted (length (stream s t)) → bytes ≡ front (stream s t) z
-      → (r ≡ write_stream_answer s vocab t z) × (bytes ≡ write_stream_exit s vocab t z)
-  unfolding write_stream_exit front
-  write_accepted w r bytes q e = (
-    q ∙ sym (writable_accepted s vocab t z w),
-    e ∙ sym (filled_front (write_stream_answer s vocab t z) (stream s t) z (ap is_accepted (writable_accepted s vocab t z w))),
-  )
+pub ruleset read_cases = (read_answer_is, read_exit_is, nat_tests)
 
 -- the refusals of the call that reads, in their order
 module _ (s : ℕ) (bytes z : List ℕ) where
@@ -146,19 +139,3 @@ readable_read s bytes z r =
     ap (take (length (stream_text s bytes)))
     (filled_front (read_stream_answer s bytes z) (stream_text s bytes) z (ap is_accepted (readable_accepted s bytes z r)))
     ∙ take-append_seam (stream_text s bytes) (drop (length (stream_text s bytes)) z)
-
-module _ (s : ℕ) (bytes z : List ℕ) where
-  -- a refused call returns the answer and leaves the slice
-  pub read_refused_lem : (number : ℕ) → eqb number 0 ≡ false → read_stream_answer s bytes z ≡ refused number
-      → (r : Answer) → r ≡ refused number → (r ≡ read_stream_answer s bytes z) × (z ≡ read_stream_exit s bytes z)
-  unfolding read_stream_exit
-  read_refused_lem number n e r q = (q ∙ sym e, sym (filled_not (read_stream_answer s bytes z) (stream_text s bytes) z (ap is_accepted e ∙ n)))
-
-  -- an accepted call returns the number of words and has the text in front
-  pub read_accepted : Readable s bytes z → (r : Answer) (t : List ℕ) → r ≡ accepted (closings s bytes) → t ≡ front (stream_text s bytes) z
-      → (r ≡ read_stream_answer s bytes z) × (t ≡ read_stream_exit s bytes z)
-  unfolding read_stream_exit front
-  read_accepted w r t q e = (
-    q ∙ sym (readable_accepted s bytes z w),
-    e ∙ sym (filled_front (read_stream_answer s bytes z) (stream_text s bytes) z (ap is_accepted (readable_accepted s bytes z w))),
-  )

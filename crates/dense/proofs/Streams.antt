@@ -8,7 +8,7 @@ use native.Mathlib.Numerals.{add-one}
 use native.Mathlib.Omega.{arith}
 use borrow.Author.Tests.{le-leb, lt-leb, leb-true, leb-false, not-false}
 use lib.ListN.{length, take, drop, get_or, length-append, length-take, length-map, take-append-drop}
-use lib.Seq.{take-suc, take-add}
+use lib.Seq.{take-suc}
 use Rattle.base.specs.Lists.{All, Below, total, all_pass, filter_by, cut_after}
 use Rattle.base.specs.Answers.{written, front}
 use Rattle.base.proofs.Fronts.{front_more}
@@ -100,13 +100,10 @@ closings_more s bytes i h =
     one true = refl
     one false = refl
 
--- the first i bytes and the n after them
-pub closings_part : (s i n : ℕ) (bytes : List ℕ) → closings s (take (i + n) bytes) ≡ closings s (take i bytes) + closings s (take n (drop i bytes))
+-- some bytes and those after them
+pub closings_append : (s : ℕ) (xs ys : List ℕ) → closings s (xs ++ ys) ≡ closings s xs + closings s ys
 unfolding closings
-closings_part s i n bytes =
-    ap (λ (xs : List ℕ). length (filter_by (closes s) xs)) (take-add i n bytes)
-    ∙ ap length (filter_append (closes s) (take i bytes) (take n (drop i bytes)))
-    ∙ length-append (filter_by (closes s) (take i bytes)) (filter_by (closes s) (take n (drop i bytes)))
+closings_append s xs ys = ap length (filter_append (closes s) xs ys) ∙ length-append (filter_by (closes s) xs) (filter_by (closes s) ys)
 
 -- never more than there are bytes
 pub closings_most : (s : ℕ) (bytes : List ℕ) → closings s bytes ≤ length bytes

@@ -3,10 +3,12 @@
 #![tactic(auto)]
 
 ghost use Rattle.std.specs.Prelude.{◌≡◌, ◌&&◌, length};
+ghost use Rattle.base.specs.Outcomes.{test_answer};
 ghost use Rattle.lexicon.specs.Letters.{letters, is_entry, keeps_entries, has_letter, is_table};
 ghost use Rattle.lexicon.specs.Tables.{table_answer};
 
-use base::{Answer, refusal};
+use base::Answer;
+use base::refusal::{Refusal, Refused};
 
 // The letter table: what each byte folds to, 0 for a separator.
 pub const LETTERS: [u8; 256] = [
@@ -35,50 +37,38 @@ fn is_entry(table: &[u8], x: u8) -> bool
     requires { length table.now ≡ 256 }
     ensures { result ≡ is_entry table.now x }
 {
-    if x == 0 {
-        return true;
-    }
-    table[x as usize] == x
+    x == 0 || table[usize::from(x)] == x
 }
 
 // Whether each of the 256 entries of a table is 0 or a byte that the table keeps, and some entry is
-// not 0: one pass over them.
+// not 0.
 fn entries_pass(table: &[u8]) -> bool
     requires { length table.now ≡ 256 }
     ensures { result ≡ keeps_entries table.now && has_letter table.now }
 {
-    let mut some = false;
-    let mut i: usize = 0;
-    while i < 256 {
-        let x = table[i];
-        if !is_entry(table, x) {
-            return false;
-        }
-        some = some | (x != 0);
-        i += 1;
-    }
-    some
+    table.iter().all(|x| is_entry(table, *x)) && table.iter().any(|x| *x != 0)
 }
 
 // Whether a slice of any length is a letter table that keeps the rules.
 pub fn is_table(table: &[u8]) -> bool
     ensures { result ≡ is_table table.now }
 {
-    if table.len() != 256 {
-        return false;
+    table.len() == 256 && table[10] == 0 && entries_pass(table)
+}
+
+// Tests a letter table that somebody brings. Refusal 18.
+pub fn test_table(table: &[u8]) -> Result<(), Refused>
+    ensures { test_answer result ≡ table_answer table.now }
+{
+    if !is_table(table) {
+        return Err(Refusal::Table.into());
     }
-    if table[10] != 0 {
-        return false;
-    }
-    entries_pass(table)
+    Ok(())
 }
 
 // Checks a letter table that somebody brings: 0 is answered exactly if it keeps the rules. Refusal 18.
 pub fn check_table(table: &[u8]) -> Answer
     ensures { result ≡ table_answer table.now }
 {
-    if !is_table(table) {
-        return Answer::refused(refusal::TABLE);
-    }
-    Answer::accepted(0)
+    test_table(table).into()
 }
