@@ -1,5 +1,5 @@
 -- What the numbers of a directory say: of superblock row q, of block row r, and of the two together. Assumes nothing.
-use Prim.Native.Nat.{ℕ, suc, ◌+◌, ◌*◌, ◌/◌, ◌≤◌, ◌<◌}
+use Prim.Native.Nat.{ℕ, suc, ◌+◌, ◌-◌, ◌*◌, ◌/◌, ◌≤◌, ◌<◌}
 use mathlib.Core.Path.{◌≡◌, sym, ap, ◌∙◌}
 use mathlib.Core.Bool.{true, false}
 use mathlib.Core.List.{List, [], flatten}
@@ -11,7 +11,7 @@ use Rattle.base.specs.Lists.{count_of, same}
 use Rattle.base.specs.Texts.{max_superblock}
 use Rattle.base.proofs.Tests.{and_left, and_right, and_true, false_of}
 use Rattle.base.proofs.Lists.{same_yes, same_true}
-use Rattle.base.proofs.Counts.{count_slice}
+use Rattle.base.proofs.Counts.{count_slice, count_part}
 use Rattle.base.proofs.Ranges.{length_map_range, get_d-map_range}
 use Rattle.directory.specs.Counters.{row, superblock_row, block_row, superblock_rows, block_rows, is_directory, Directory, max_bytes, Sizes}
 use Rattle.directory.specs.Tables.{first_rows}
@@ -200,3 +200,21 @@ module _ {block per : ℕ} {bytes superblocks blocks : List ℕ} (sizes : Sizes 
           block_is,
           count_slice x (r / per * (block * per)) (r * block) bytes (start_before block per r),
         )
+
+  module _ (i x : ℕ) (here : i ≤ length bytes) (byte : x < 256) where
+    -- the block of position i starts within the bytes
+    pub block_here : i / block * block ≤ length bytes
+    block_here = omega (arith, div-mul-le_self i block)
+
+    -- and so does its superblock
+    pub superblock_here : i / block / per * (block * per) ≤ length bytes
+    superblock_here = le_trans (start_before block per (i / block)) block_here
+
+    -- the two numbers and those of the block before position i count the bytes before it
+    pub parts_are :
+        get_or superblocks (i / block / per * 256 + x) 0 + get_or blocks (i / block * 256 + x) 0 + count_of x (take (i - i / block * block) (drop (i / block * block) bytes))
+        ≡ count_of x (take i bytes)
+    parts_are =
+        let start = i / block * block in
+        let e : start + (i - start) ≡ i = omega (arith, div-mul-le_self i block) in
+        rw (both_are (i / block) x block_here byte, ← count_part x start (i - start) bytes, e)

@@ -10,6 +10,10 @@ ghost use Rattle.directory.specs.Counters.{Sizes, Directory};
 ghost use Rattle.directory.specs.Tables.{LastRow};
 ghost use Rattle.directory.specs.Blocks.{BlockWith};
 
+mod counted_bytes;
+
+pub use counted_bytes::CountedBytes;
+
 // How often a byte stands in a part of at most 255 bytes; the count is a byte itself, so that many
 // bytes are compared at once.
 fn count_few(part: &[u8], byte: u8) -> u8
@@ -159,27 +163,6 @@ fn search_blocks(blocks: &[u16], byte: u8, j: usize, first: usize, end: usize) -
     walk_blocks(blocks, byte, j, low, high)
 }
 
-// How often a byte stands in the first i bytes: two numbers of the directory, and a count in less
-// than a block.
-pub fn count_below(
-    bytes: &[u8],
-    superblocks: &[u32],
-    blocks: &[u16],
-    block: usize,
-    per: usize,
-    byte: u8,
-    i: usize,
-) -> usize
-    requires { Sizes block per bytes.now × Directory block per bytes.now superblocks.now blocks.now × (i ≤ length bytes.now) }
-    ensures { result ≡ count_of byte (take i bytes.now) }
-{
-    let row = i / block;
-    let start = row * block;
-    let above = superblock_at(superblocks, row / per, byte);
-    let within = block_at(blocks, row, byte);
-    above + within + count_in(&bytes[start..i], byte)
-}
-
 // The block in which an occurrence lies, if there is one: its start and its end, how many others are
 // left to pass in it, and the superblock row in which it was found.
 #[derive(Clone, Copy)]
@@ -190,71 +173,11 @@ struct Held {
     superblock: usize,
 }
 
-// The block of the occurrence of a byte that has j others before it, the last block where there is
-// none: a search in the superblock rows, which begins near a row, and one in the superblock's block
-// rows.
-fn block_with(
-    bytes: &[u8],
-    superblocks: &[u32],
-    blocks: &[u16],
-    block: usize,
-    per: usize,
-    byte: u8,
-    j: usize,
-    near: usize,
-) -> Held
-    requires { Sizes block per bytes.now × Directory block per bytes.now superblocks.now blocks.now }
-    ensures { BlockWith byte j bytes.now result }
-{
-    let superblock = superblock_near(superblocks, byte, j, near);
-    let left = j - superblock_at(superblocks, superblock, byte);
-    let first = superblock * per;
-    let end = base::least(first + per, blocks.len() / 256);
-    let row = search_blocks(blocks, byte, left, first, end);
-    let rest = left - block_at(blocks, row, byte);
-    let start = row * block;
-    let stop = base::least(start + block, bytes.len());
-    Held {
-        start,
-        stop,
-        rest,
-        superblock,
-    }
-}
-
 // An occurrence of a byte: its position, and the superblock row in which it was found.
 #[derive(Clone, Copy)]
 pub struct Occurrence {
     pub at: usize,
     pub superblock: usize,
-}
-
-// The occurrence of a byte that has j others before it, at the number of bytes where there is none:
-// the search of its block, and the scan of that. Its position is the same whatever the row near which
-// it is sought.
-pub fn nth(
-    bytes: &[u8],
-    superblocks: &[u32],
-    blocks: &[u16],
-    block: usize,
-    per: usize,
-    byte: u8,
-    j: usize,
-    near: usize,
-) -> Occurrence
-    requires { Sizes block per bytes.now × Directory block per bytes.now superblocks.now blocks.now }
-    ensures { result.at ≡ nth_of byte j bytes.now }
-{
-    let held = block_with(bytes, superblocks, blocks, block, per, byte, j, near);
-    let start = held.start;
-    let stop = held.stop;
-    let scanned = block_scan::scan(&bytes[start..stop], byte, held.rest);
-    let stands = scanned.stands;
-    let at = start + block_scan::position_of(stands, stop - start);
-    Occurrence {
-        at,
-        superblock: held.superblock,
-    }
 }
 
 // The start of the piece of 64 bytes of a part in which the occurrence of a byte lies that has so many
@@ -286,8 +209,144 @@ pub struct Span {
     pub superblock: usize,
 }
 
-// The piece of at most 64 bytes in which the occurrence of a byte that has j others before it lies:
-// the search of its block, and counts in the block's pieces. Its place is not looked for.
+impl CountedBytes<'_> {
+    // How often a byte stands in the first i bytes: two numbers of the directory, and a count in less
+    // than a block.
+    pub fn count_below(&self, byte: u8, i: usize) -> usize
+        requires { i ≤ length self.now.bytes.now }
+        ensures { result ≡ count_of byte (take i self.now.bytes.now) }
+    {
+        let row = i / self.block;
+        let start = row * self.block;
+        let above = superblock_at(self.superblocks, row / self.per, byte);
+        let within = block_at(self.blocks, row, byte);
+        above + within + count_in(&self.bytes[start..i], byte)
+    }
+
+    // The block of the occurrence of a byte that has j others before it, the last block where there is
+    // none: a search in the superblock rows, which begins near a row, and one in the superblock's block
+    // rows.
+    fn block_with(&self, byte: u8, j: usize, near: usize) -> Held
+        ensures { BlockWith byte j self.now.bytes.now result }
+    {
+        let superblock = superblock_near(self.superblocks, byte, j, near);
+        let left = j - superblock_at(self.superblocks, superblock, byte);
+        let first = superblock * self.per;
+        let end = base::least(first + self.per, self.blocks.len() / 256);
+        let row = search_blocks(self.blocks, byte, left, first, end);
+        let rest = left - block_at(self.blocks, row, byte);
+        let start = row * self.block;
+        let stop = base::least(start + self.block, self.bytes.len());
+        Held {
+            start,
+            stop,
+            rest,
+            superblock,
+        }
+    }
+
+    // The occurrence of a byte that has j others before it, at the number of bytes where there is none:
+    // the search of its block, and the scan of that. Its position is the same whatever the row near
+    // which it is sought.
+    pub fn nth(&self, byte: u8, j: usize, near: usize) -> Occurrence
+        ensures { result.at ≡ nth_of byte j self.now.bytes.now }
+    {
+        let held = self.block_with(byte, j, near);
+        let start = held.start;
+        let stop = held.stop;
+        let scanned = block_scan::scan(&self.bytes[start..stop], byte, held.rest);
+        let stands = scanned.stands;
+        let at = start + block_scan::position_of(stands, stop - start);
+        Occurrence {
+            at,
+            superblock: held.superblock,
+        }
+    }
+
+    // The piece of at most 64 bytes in which the occurrence of a byte that has j others before it lies:
+    // the search of its block, and counts in the block's pieces. Its place is not looked for.
+    pub fn piece_of(&self, byte: u8, j: usize, near: usize) -> Span
+        requires { j < count_of byte self.now.bytes.now }
+        ensures { (result.from ≤ nth_of byte j self.now.bytes.now) × (nth_of byte j self.now.bytes.now < result.to) × (result.to ≤ result.from + 64) × (result.to ≤ length self.now.bytes.now) }
+    {
+        let held = self.block_with(byte, j, near);
+        let start = held.start;
+        let stop = held.stop;
+        let from = start + piece_in(&self.bytes[start..stop], byte, held.rest);
+        let to = base::least(from + 64, stop);
+        Span {
+            from,
+            to,
+            superblock: held.superblock,
+        }
+    }
+
+    // The occurrence of a byte that has j others before it, where j stand before a position, at the
+    // number of bytes where there is none: read on from there, and after 512 bytes without it sought in
+    // the directory.
+    pub fn nth_from(&self, byte: u8, j: usize, from: usize, near: usize) -> Occurrence
+        requires { (from ≤ length self.now.bytes.now) × (count_of byte (take from self.now.bytes.now) ≡ j) }
+        ensures { result.at ≡ nth_of byte j self.now.bytes.now }
+    {
+        let stop = base::least(from + 512, self.bytes.len());
+        let ahead = pairs::next_of(&self.bytes[from..stop], byte);
+        if ahead < stop - from {
+            return Occurrence {
+                at: from + ahead,
+                superblock: near,
+            };
+        }
+        self.nth(byte, j, near)
+    }
+}
+
+// The same calls with the bytes and their directory one by one.
+
+pub fn count_below(
+    bytes: &[u8],
+    superblocks: &[u32],
+    blocks: &[u16],
+    block: usize,
+    per: usize,
+    byte: u8,
+    i: usize,
+) -> usize
+    requires { Sizes block per bytes.now × Directory block per bytes.now superblocks.now blocks.now × (i ≤ length bytes.now) }
+    ensures { result ≡ count_of byte (take i bytes.now) }
+{
+    let counted = CountedBytes {
+        bytes,
+        superblocks,
+        blocks,
+        block,
+        per,
+    };
+    counted.count_below(byte, i)
+}
+
+pub fn nth(
+    bytes: &[u8],
+    superblocks: &[u32],
+    blocks: &[u16],
+    block: usize,
+    per: usize,
+    byte: u8,
+    j: usize,
+    near: usize,
+) -> Occurrence
+    requires { Sizes block per bytes.now × Directory block per bytes.now superblocks.now blocks.now }
+    ensures { result.at ≡ nth_of byte j bytes.now }
+{
+    let counted = CountedBytes {
+        bytes,
+        superblocks,
+        blocks,
+        block,
+        per,
+    };
+    counted.nth(byte, j, near)
+}
+
 pub fn piece_of(
     bytes: &[u8],
     superblocks: &[u32],
@@ -301,21 +360,16 @@ pub fn piece_of(
     requires { Sizes block per bytes.now × Directory block per bytes.now superblocks.now blocks.now × (j < count_of byte bytes.now) }
     ensures { (result.from ≤ nth_of byte j bytes.now) × (nth_of byte j bytes.now < result.to) × (result.to ≤ result.from + 64) × (result.to ≤ length bytes.now) }
 {
-    let held = block_with(bytes, superblocks, blocks, block, per, byte, j, near);
-    let start = held.start;
-    let stop = held.stop;
-    let from = start + piece_in(&bytes[start..stop], byte, held.rest);
-    let to = base::least(from + 64, stop);
-    Span {
-        from,
-        to,
-        superblock: held.superblock,
-    }
+    let counted = CountedBytes {
+        bytes,
+        superblocks,
+        blocks,
+        block,
+        per,
+    };
+    counted.piece_of(byte, j, near)
 }
 
-// The occurrence of a byte that has j others before it, where j stand before a position, at the number
-// of bytes where there is none: read on from there, and after 512 bytes without it sought in the
-// directory.
 pub fn nth_from(
     bytes: &[u8],
     superblocks: &[u32],
@@ -330,13 +384,12 @@ pub fn nth_from(
     requires { Sizes block per bytes.now × Directory block per bytes.now superblocks.now blocks.now × (from ≤ length bytes.now) × (count_of byte (take from bytes.now) ≡ j) }
     ensures { result.at ≡ nth_of byte j bytes.now }
 {
-    let stop = base::least(from + 512, bytes.len());
-    let ahead = pairs::next_of(&bytes[from..stop], byte);
-    if ahead < stop - from {
-        return Occurrence {
-            at: from + ahead,
-            superblock: near,
-        };
-    }
-    nth(bytes, superblocks, blocks, block, per, byte, j, near)
+    let counted = CountedBytes {
+        bytes,
+        superblocks,
+        blocks,
+        block,
+        per,
+    };
+    counted.nth_from(byte, j, from, near)
 }
