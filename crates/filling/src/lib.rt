@@ -2,25 +2,14 @@
 // behind those that its node has so far. Inner functions: their callers have checked the sizes.
 #![tactic(auto)]
 
-ghost use Rattle.std.specs.Prelude.{◌≡◌, ◌+◌, ◌<◌, length, get_or, set, take, replicate};
+ghost use Rattle.std.specs.Prelude.{◌≡◌, ◌+◌, ◌<◌, length, get_or, set, take};
 ghost use mathlib.Core.List.{flatten};
 ghost use Rattle.base.specs.Lists.{total};
 ghost use Rattle.directory.specs.Counters.{max_bytes};
 ghost use Rattle.tree.specs.Nodes.{node_bytes};
 ghost use Rattle.filling.specs.Filling.{first_nodes, node_lengths, InNodes, LengthsCounted, Parted, Stands};
 
-use tree::{Place, Position};
-
-// Sets all lengths to 0.
-fn clear(lengths: &mut [u32])
-    ensures { lengths.new ≡ replicate (length lengths.old) 0 }
-{
-    let mut node = 0;
-    while node < lengths.len() {
-        lengths[node] = 0;
-        node += 1;
-    }
-}
+use tree::Place;
 
 // Adds 1 to the length of each node in which the word at a place has a byte.
 fn count_word(s: usize, text: &[u32], place: Place, lengths: &mut [u32])
@@ -30,13 +19,10 @@ fn count_word(s: usize, text: &[u32], place: Place, lengths: &mut [u32])
     let at = place.0;
     let word = dense::encode(s, text[at] as usize);
     let code = [word.first, word.second, word.third];
-    let count = word.length;
-    let mut node: usize = 0;
-    let mut i: usize = 0;
-    while i < count {
+    let mut node = 0;
+    for byte in &code[..word.length] {
         lengths[node] += 1;
-        node = tree::child(s, node, code[i]);
-        i += 1;
+        node = tree::child(s, node, *byte);
     }
 }
 
@@ -45,21 +31,10 @@ fn count_nodes(s: usize, text: &[u32], lengths: &mut [u32])
     requires { InNodes s (length lengths.old) text.now }
     ensures { lengths.new ≡ node_lengths s (length lengths.old) text.now }
 {
-    clear(lengths);
-    let mut place = 0;
-    while place < text.len() {
+    lengths.fill(0);
+    for place in 0..text.len() {
         count_word(s, text, Place(place), lengths);
-        place += 1;
     }
-}
-
-// Writes a byte at a position of a node, whose bytes begin the part; the rest stays.
-fn put(part: &mut [u8], position: Position, byte: u8)
-    requires { position.0 < length part.old }
-    ensures { part.new ≡ set part.old position.0 byte }
-{
-    let at = position.0;
-    part[at] = byte;
 }
 
 // Writes a byte behind those that a node has so far, and adds 1 to the length of the node.
@@ -71,7 +46,7 @@ fn write_byte(starts: &[u32], lengths: &mut [u32], bytes: &mut [u8], node: usize
 {
     let start = starts[node] as usize;
     let position = lengths[node];
-    put(&mut bytes[start..], Position(position as usize), byte);
+    bytes[start + position as usize] = byte;
     lengths[node] = position + 1;
 }
 
@@ -93,13 +68,10 @@ fn write_word(
     let at = place.0;
     let word = dense::encode(s, text[at] as usize);
     let code = [word.first, word.second, word.third];
-    let size = word.length;
-    let mut node: usize = 0;
-    let mut i: usize = 0;
-    while i < size {
-        write_byte(starts, lengths, bytes, node, code[i]);
-        node = tree::child(s, node, code[i]);
-        i += 1;
+    let mut node = 0;
+    for byte in &code[..word.length] {
+        write_byte(starts, lengths, bytes, node, *byte);
+        node = tree::child(s, node, *byte);
     }
 }
 
@@ -109,11 +81,9 @@ fn write_words(s: usize, text: &[u32], starts: &[u32], lengths: &mut [u32], byte
     ensures { (lengths.new ≡ node_lengths s (length lengths.old) text.now)
         × (bytes.new ≡ flatten (first_nodes s (length lengths.old) text.now)) }
 {
-    clear(lengths);
-    let mut place = 0;
-    while place < text.len() {
+    lengths.fill(0);
+    for place in 0..text.len() {
         write_word(s, text, Place(place), starts, lengths, bytes);
-        place += 1;
     }
 }
 

@@ -4,10 +4,11 @@
 #![tactic(auto)]
 
 ghost use Rattle.std.specs.Prelude.{◌≡◌};
+ghost use Rattle.base.specs.Outcomes.{number_of_test};
 ghost use Rattle.dense.specs.Code.{Closing};
 ghost use Rattle.index.specs.Entries.{limits_refusal};
 
-use base::refusal;
+use base::refusal::Refusal;
 
 // The size of the vocabulary V, the block length B and the number b of blocks of a superblock.
 #[repr(C)]
@@ -30,25 +31,25 @@ pub struct LentIndex<'a> {
     pub blocks: &'a [u16],
 }
 
-// The number of the refusal that V, B or b outside their limits brings; 0 where they are within.
-pub fn limits_refusal(s: usize, shape: Shape) -> u32
+// Tests V, B and b: the first of them that is outside its limits is refused.
+pub fn check_limits(s: usize, shape: Shape) -> Result<(), Refusal>
     requires { Closing s }
-    ensures { result ≡ limits_refusal s shape }
+    ensures { number_of_test result ≡ limits_refusal s shape }
 {
     if shape.vocabulary < 1 {
-        return refusal::VOCABULARY;
+        return Err(Refusal::Vocabulary);
     }
     if dense::max_vocabulary(s) < shape.vocabulary {
-        return refusal::VOCABULARY;
+        return Err(Refusal::Vocabulary);
     }
     if shape.block < 1 {
-        return refusal::BLOCKS;
+        return Err(Refusal::Blocks);
     }
     if shape.per_superblock < 1 {
-        return refusal::BLOCKS;
+        return Err(Refusal::Blocks);
     }
     if base::MAX_SUPERBLOCK / shape.block < shape.per_superblock {
-        return refusal::BLOCKS;
+        return Err(Refusal::Blocks);
     }
-    0
+    Ok(())
 }

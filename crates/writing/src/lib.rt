@@ -13,6 +13,7 @@ ghost use Rattle.writing.specs.Slices.{too_short, Buildable, fronts};
 use index::Shape;
 
 // Whether one of the slices is too short for an index of so many bytes.
+#[tactic(auto, unfolding(crate::specs::Slices::too_short))]
 pub fn too_short(
     s: usize,
     shape: Shape,
@@ -28,10 +29,10 @@ pub fn too_short(
     let nodes = tree::node_count(s, shape.vocabulary);
     let superblock_rows = tallies::row_count(needed, shape.block * shape.per_superblock);
     let block_rows = tallies::row_count(needed, shape.block);
-    (lengths.len() < nodes)
-        | (bytes.len() < needed)
-        | (superblocks.len() < superblock_rows * 256)
-        | (blocks.len() < block_rows * 256)
+    lengths.len() < nodes
+        || bytes.len() < needed
+        || superblocks.len() < superblock_rows * 256
+        || blocks.len() < block_rows * 256
 }
 
 // Writes the index of a text to the fronts of the four slices; the rest stays.

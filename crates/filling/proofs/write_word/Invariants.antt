@@ -1,0 +1,11 @@
+-- The loop's invariant: the bytes passed stand in their nodes, and lead to the node.
+use Rattle.std.proofs.Common.{◌≡◌, length}
+use Rattle.filling.specs.Filling.{LengthsCounted, Stands}
+use Rattle.filling.proofs.Filling.{node_at, held}
+use Rattle.filling.proofs.write_word.Given as goal
+
+abbrev pub invariant-loop-byte : goal.invariant-loop-byte
+invariant-loop-byte l =
+    (l.node ≡ node_at l.s l.text l.at l.byte-index)
+    × LengthsCounted (held l.s l.text l.at l.byte-index) l.lengths
+    × Stands (held l.s l.text l.at l.byte-index) (length l.lengths) l.starts l.bytes
