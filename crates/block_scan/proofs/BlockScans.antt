@@ -11,21 +11,21 @@ use lib.Seq.{take_all}
 use Rattle.base.specs.Lists.{count_of, nth}
 use Rattle.base.proofs.Tests.{below_or_not}
 use Rattle.base.proofs.Counts.{Found, count_hit, count_part, count_most, count_take_rises, count_take_less, nth_found, nth_here, nth_none}
-use Rattle.block_scan.specs.declared.Where.TheVariants.{At, Nowhere}
+use Rattle.std.specs.Prelude.{Some, None}
 use Rattle.block_scan.specs.declared.Scanned.{Scanned}
 use Rattle.block_scan.specs.BlockScans.{scan_of, position_of}
 
 -- the scan of a block by whether it has more than j
 cases : ℕ → ℕ → List ℕ → Bool → Scanned
-cases x j block t = cond t (record { stands = At (nth x j block); read = suc (nth x j block) }) (record { stands = Nowhere; read = length block })
+cases x j block t = cond t (record { stands = Some (nth x j block); read = suc (nth x j block) }) (record { stands = None; read = length block })
 
 -- where the block has more than j
-pub scan_found : (x j : ℕ) (block : List ℕ) → j < count_of x block → scan_of x j block ≡ record { stands = At (nth x j block); read = suc (nth x j block) }
+pub scan_found : (x j : ℕ) (block : List ℕ) → j < count_of x block → scan_of x j block ≡ record { stands = Some (nth x j block); read = suc (nth x j block) }
 unfolding scan_of cases
 scan_found x j block h = ap (cases x j block) (lt-ltb j _ (omega (arith, h)))
 
 -- and where it has at most j
-pub scan_none : (x j : ℕ) (block : List ℕ) → count_of x block ≤ j → scan_of x j block ≡ record { stands = Nowhere; read = length block }
+pub scan_none : (x j : ℕ) (block : List ℕ) → count_of x block ≤ j → scan_of x j block ≡ record { stands = None; read = length block }
 unfolding scan_of cases
 scan_none x j block h = ap (cases x j block) (le-ltb j _ (omega (arith, h)))
 
@@ -63,14 +63,14 @@ not-past-one x j i block h c = omega (arith, not_past x j i 0 block (omega arith
 
 -- a scan that has read i bytes with j of x, and then x, ends there
 pub scan_hit : (x j i : ℕ) (block : List ℕ) → i < length block → get_or block i 0 ≡ x → count_of x (take i block) ≡ j
-    → record { stands = At i; read = suc i } ≡ scan_of x j block
+    → record { stands = Some i; read = suc i } ≡ scan_of x j block
 scan_hit x j i block here q c =
     let p : nth x j block ≡ i = nth_here x j i block here q c in
     let h : j < count_of x block = omega (arith, count_take_less x block i here q) in
-    sym (scan_found x j block h ∙ ap (λ (n : ℕ). record { stands = At n; read = suc n }) p)
+    sym (scan_found x j block h ∙ ap (λ (n : ℕ). record { stands = Some n; read = suc n }) p)
 
 -- a scan that has read all bytes with at most j of x ends with none
-pub scan_whole : (x j i : ℕ) (block : List ℕ) → i ≡ length block → count_of x (take i block) ≤ j → record { stands = Nowhere; read = i } ≡ scan_of x j block
+pub scan_whole : (x j i : ℕ) (block : List ℕ) → i ≡ length block → count_of x (take i block) ≤ j → record { stands = None; read = i } ≡ scan_of x j block
 scan_whole x j i block e most =
     let all : take i block ≡ block = take_all i block (omega arith) in
-    ap (λ (n : ℕ). record { stands = Nowhere; read = n }) e ∙ sym (scan_none x j block (rw all at most))
+    ap (λ (n : ℕ). record { stands = None; read = n }) e ∙ sym (scan_none x j block (rw all at most))

@@ -7,7 +7,7 @@ use lib.ListN.{length, take}
 use lib.Seq.{take-append_seam}
 use Rattle.base.specs.Lists.{count_of, nth}
 use Rattle.base.proofs.Counts.{Found, count_append, count_hit, nth_found, nth_front}
-use Rattle.block_scan.specs.declared.Where.TheVariants.{At, Nowhere}
+use Rattle.std.specs.Prelude.{Some, None}
 use Rattle.block_scan.specs.declared.Scanned.{Scanned}
 use Rattle.block_scan.specs.BlockScans.{scan_of}
 use Rattle.block_scan.specs.Laws.{ScansExact}
@@ -25,7 +25,7 @@ scan_enough x j block rest h = same (take (suc (nth x j block)) block) b (nth_fr
         let t : count_of x (take (length front) (front ++ rest)) ≡ count_of x front = ap (count_of x) (take-append_seam front rest) in
         let r : nth x j front ≡ nth x j (front ++ rest) = sym (ap (nth x j) (take-append_seam front rest)) ∙ nth_front x j (length front) (front ++ rest) (omega arith) in
         let q : nth x j (front ++ rest) ≡ nth x j block = sym r ∙ p in
-        scan_found x j (front ++ rest) (omega (arith, count_append x front rest)) ∙ ap (λ (n : ℕ). record { stands = At n; read = suc n }) q ∙ sym (scan_found x j block h)
+        scan_found x j (front ++ rest) (omega (arith, count_append x front rest)) ∙ ap (λ (n : ℕ). record { stands = Some n; read = suc n }) q ∙ sym (scan_found x j block h)
 
 pub scans_exact : ScansExact
 scans_exact x j block = record {
@@ -35,10 +35,10 @@ scans_exact x j block = record {
 }
 
 -- samples: the third, the second, one at the last byte, one too many, an empty block
-samples : (scan_of 7 2 (7 ∷ 1 ∷ 7 ∷ 7 ∷ 7 ∷ []) ≡ record { stands = At 3; read = 4 })
-    × (scan_of 7 1 (7 ∷ 1 ∷ 7 ∷ 7 ∷ 7 ∷ []) ≡ record { stands = At 2; read = 3 })
-    × (scan_of 7 3 (7 ∷ 1 ∷ 7 ∷ 7 ∷ 7 ∷ []) ≡ record { stands = At 4; read = 5 })
-    × (scan_of 7 4 (7 ∷ 1 ∷ 7 ∷ 7 ∷ 7 ∷ []) ≡ record { stands = Nowhere; read = 5 })
-    × (scan_of 7 0 [] ≡ record { stands = Nowhere; read = 0 })
+samples : (scan_of 7 2 (7 ∷ 1 ∷ 7 ∷ 7 ∷ 7 ∷ []) ≡ record { stands = Some 3; read = 4 })
+    × (scan_of 7 1 (7 ∷ 1 ∷ 7 ∷ 7 ∷ 7 ∷ []) ≡ record { stands = Some 2; read = 3 })
+    × (scan_of 7 3 (7 ∷ 1 ∷ 7 ∷ 7 ∷ 7 ∷ []) ≡ record { stands = Some 4; read = 5 })
+    × (scan_of 7 4 (7 ∷ 1 ∷ 7 ∷ 7 ∷ 7 ∷ []) ≡ record { stands = None; read = 5 })
+    × (scan_of 7 0 [] ≡ record { stands = None; read = 0 })
 unfolding scan_of
 samples = (refl, refl, refl, refl, refl)

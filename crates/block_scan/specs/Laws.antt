@@ -1,7 +1,6 @@
 -- Statement: what a scan gives is the occurrence and the bytes through it, and nothing behind them matters.
-use Rattle.std.specs.Prelude.{ℕ, suc, ◌≤◌, ◌<◌, ◌≡◌, List, ◌++◌, length, take, get_or}
+use Rattle.std.specs.Prelude.{ℕ, suc, ◌≤◌, ◌<◌, ◌≡◌, List, ◌++◌, length, take, get_or, Some, None}
 use Rattle.base.specs.Lists.{count_of}
-use Rattle.block_scan.specs.declared.Where.TheVariants.{At, Nowhere}
 use Rattle.block_scan.specs.BlockScans.{scan_of}
 
 pub record ScanExact (x j : ℕ) (block : List ℕ) : Type 0 where
@@ -9,9 +8,9 @@ pub record ScanExact (x j : ℕ) (block : List ℕ) : Type 0 where
   pub found :
       j < count_of x block →
       (p : ℕ) × (p < length block) × (get_or block p 0 ≡ x) × (count_of x (take p block) ≡ j)
-      × (scan_of x j block ≡ record { stands = At p; read = suc p })
+      × (scan_of x j block ≡ record { stands = Some p; read = suc p })
   -- a block with at most j is read whole, and none is given
-  pub none : count_of x block ≤ j → scan_of x j block ≡ record { stands = Nowhere; read = length block }
+  pub none : count_of x block ≤ j → scan_of x j block ≡ record { stands = None; read = length block }
   -- whatever stands behind the bytes that are read, the answer is the same
   pub enough :
       (rest : List ℕ) → j < count_of x block →

@@ -8,28 +8,23 @@ use native.Mathlib.Omega.{arith}
 use lib.ListN.{length, get_or, take, drop}
 use lib.Seq.{take_all}
 use Rattle.base.specs.Lists.{count_of, nth}
+use Rattle.std.proofs.lemmas.Grind.{get_or_default_zero}
 use Rattle.base.proofs.Tests.{below_or_not}
 use Rattle.base.proofs.Counts.{count_part, nth_part}
 use Rattle.directory.specs.Counters.{Sizes, Directory}
-use Rattle.directory.specs.Tables.{LastRow}
+use Rattle.directory.specs.Tables.{LastOf, LastRow}
 use Rattle.base.proofs.Parts.{quotient_inside, inside_quotient, part_cut}
 use Rattle.directory.proofs.Rows.{first_block, next_block, in_superblock, superblock_some, superblock_rows_lem, block_rows_lem, superblock_is, both_are}
 
 -- ---- a binary search
 
--- the rows left to a search: row low has at most j, and row high, where it is before end, has more
-pub record Left (table : List ℕ) (x j first end low high : ℕ) : Type 0 where
-  pub from : first ≤ low
-  pub some : low < high
-  pub to : high ≤ end
-  pub most : get_or table (low * 256 + x) 0 ≤ j
-  pub more : high < end → j < get_or table (high * 256 + x) 0
+-- the last row of a table
+pub last_row_of : {table : List ℕ} {x j first end r : ℕ} → LastOf (λ r. get_or table (r * 256 + x) 0) j first end r → LastRow table x j first end r
+last_row_of f = record { from = f.from; inside = f.inside; most = f.most; more = f.more }
 
--- one row is left
-pub last_left : {table : List ℕ} {x j first end low high : ℕ} → Left table x j first end low high → high - low ≤ 1 → LastRow table x j first end low
-last_left {end = end} {low = low} {high = high} l h =
-    let e : suc low ≡ high = omega arith in
-    record { from = l.from; inside = omega arith; most = l.most; more = λ (k : suc low < end). rw e (l.more (omega arith)) }
+-- a number of a table is the same whatever is given where there is none
+pub number_same : (table : List ℕ) (i n : ℕ) → i < length table → get_or table i 0 ≤ n → (d : ℕ) → get_or table i d ≤ n
+number_same table i n h l d = rw (get_or_default_zero table i d h) l
 
 -- the last row of some is the last of more, where the row behind those has more than j or is none
 pub last_of_more : {table : List ℕ} {x j first end r : ℕ} (low high : ℕ) → LastRow table x j first end r → low ≤ first → end ≤ high

@@ -4,10 +4,10 @@
 // have checked the directory.
 #![tactic(auto)]
 
-ghost use Rattle.std.specs.Prelude.{◌≡◌, ◌+◌, ◌*◌, ◌/◌, ◌≤◌, ◌<◌, length, get_or, take};
+ghost use Rattle.std.specs.Prelude.{ℕ, ◌≡◌, ◌+◌, ◌*◌, ◌/◌, ◌≤◌, ◌<◌, length, get_or, take};
 ghost use Rattle.base.specs.Lists.{count_of, nth as nth_of};
 ghost use Rattle.directory.specs.Counters.{Sizes, Directory};
-ghost use Rattle.directory.specs.Tables.{LastRow};
+ghost use Rattle.directory.specs.Tables.{LastOf, LastRow};
 ghost use Rattle.directory.specs.Blocks.{BlockWith};
 
 mod counted_bytes;
@@ -21,12 +21,10 @@ fn count_few(part: &[u8], byte: u8) -> u8
     ensures { result ≡ count_of byte part.now }
 {
     let mut found: u8 = 0;
-    let mut i = 0;
-    while i < part.len() {
-        if part[i] == byte {
+    for here in part {
+        if *here == byte {
             found += 1;
         }
-        i += 1;
     }
     found
 }
@@ -36,61 +34,74 @@ pub fn count_in(part: &[u8], byte: u8) -> usize
     ensures { result ≡ count_of byte part.now }
 {
     let mut found: usize = 0;
-    let mut i = 0;
-    while i < part.len() {
-        let stop = base::least(i + 192, part.len());
-        found += count_few(&part[i..stop], byte) as usize;
-        i = stop;
+    for few in part.chunks(192) {
+        found += usize::from(count_few(few, byte));
     }
     found
 }
 
-// A `u32` as a `usize`.
-fn widen_u32(number: u32) -> usize
-    ensures { result ≡ number }
-{
-    number as usize
+// A number of a row: one of a superblock row has 32 bits, one of a block row 16.
+trait Number: Copy {
+    ghost value: { Self → ℕ };
+
+    fn widened(self) -> usize
+        ensures { result ≡ value self };
 }
 
-// A `u16` as a `usize`.
-fn widen_u16(number: u16) -> usize
-    ensures { result ≡ number }
-{
-    number as usize
+impl Number for u32 {
+    ghost value = { λ n. n };
+
+    fn widened(self) -> usize {
+        self as usize
+    }
 }
 
-// The number of a byte in a superblock row.
-fn superblock_at(superblocks: &[u32], row: usize, byte: u8) -> usize
-    requires { row * 256 + byte < length superblocks.now }
-    ensures { result ≡ get_or superblocks.now (row * 256 + byte) 0 }
-{
-    widen_u32(superblocks[row * 256 + byte as usize])
+impl Number for u16 {
+    ghost value = { λ n. n };
+
+    fn widened(self) -> usize {
+        usize::from(self)
+    }
 }
 
-// The number of a byte in a block row.
-fn block_at(blocks: &[u16], row: usize, byte: u8) -> usize
-    requires { row * 256 + byte < length blocks.now }
-    ensures { result ≡ get_or blocks.now (row * 256 + byte) 0 }
+// The number of a byte in a row.
+fn number_at<N: Number>(rows: &[N], row: usize, byte: u8) -> usize
+    requires { row * 256 + byte < length rows.now }
+    ensures { (d : N) → result ≡ N.value (get_or rows.now (row * 256 + byte) d) }
 {
-    widen_u16(blocks[row * 256 + byte as usize])
+    rows[row * 256 + usize::from(byte)].widened()
 }
 
-// The last superblock row from first to before end with at most j of a byte.
-fn search_superblocks(superblocks: &[u32], byte: u8, j: usize, first: usize, end: usize) -> usize
-    requires { (first < end) × (end * 256 ≤ length superblocks.now) × (get_or superblocks.now (first * 256 + byte) 0 ≤ j) }
-    ensures { LastRow superblocks.now byte j first end result }
+// The last row from first to before end with at most j of a byte: by halves until so few rows are
+// left, and then row by row.
+fn last_row<N: Number>(
+    rows: &[N],
+    byte: u8,
+    j: usize,
+    first: usize,
+    end: usize,
+    few: usize,
+) -> usize
+    requires inside { (first < end) × (end * 256 ≤ length rows.now) × (1 ≤ few) }
+    requires most { (d : N) → N.value (get_or rows.now (first * 256 + byte) d) ≤ j }
+    ensures { (d : N) → LastOf (λ r. N.value (get_or rows.now (r * 256 + byte) d)) j first end result }
 {
     let mut low = first;
     let mut high = end;
-    while 1 < high - low {
+    while few < high - low {
         let middle = low + (high - low) / 2;
-        if superblock_at(superblocks, middle, byte) <= j {
+        if number_at(rows, middle, byte) <= j {
             low = middle;
         } else {
             high = middle;
         }
     }
-    low
+    for row in low + 1..high {
+        if j < number_at(rows, row, byte) {
+            return row - 1;
+        }
+    }
+    high - 1
 }
 
 // A row after first with more than j of a byte, or end: the rows 1, 2, 4, 8 and 16 after it are
@@ -99,16 +110,14 @@ fn row_ahead(superblocks: &[u32], byte: u8, j: usize, first: usize, end: usize) 
     requires { (first < end) × (end * 256 ≤ length superblocks.now) }
     ensures { (first < result) × (result ≤ end) × (result < end → j < get_or superblocks.now (result * 256 + byte) 0) }
 {
-    let mut step: usize = 1;
-    while step < 32 {
+    for step in [1, 2, 4, 8, 16usize] {
         if end - first <= step {
             return end;
         }
         let row = first + step;
-        if j < superblock_at(superblocks, row, byte) {
+        if j < number_at(superblocks, row, byte) {
             return row;
         }
-        step *= 2;
     }
     end
 }
@@ -120,47 +129,11 @@ fn superblock_near(superblocks: &[u32], byte: u8, j: usize, near: usize) -> usiz
     ensures { LastRow superblocks.now byte j 0 (length superblocks.now / 256) result }
 {
     let rows = superblocks.len() / 256;
-    if rows <= near {
-        return search_superblocks(superblocks, byte, j, 0, rows);
-    }
-    if j < superblock_at(superblocks, near, byte) {
-        return search_superblocks(superblocks, byte, j, 0, rows);
+    if rows <= near || j < number_at(superblocks, near, byte) {
+        return last_row(superblocks, byte, j, 0, rows, 1);
     }
     let end = row_ahead(superblocks, byte, j, near, rows);
-    search_superblocks(superblocks, byte, j, near, end)
-}
-
-// The last block row from first to before end with at most j of a byte, row by row.
-fn walk_blocks(blocks: &[u16], byte: u8, j: usize, first: usize, end: usize) -> usize
-    requires { (first < end) × (end * 256 ≤ length blocks.now) × (get_or blocks.now (first * 256 + byte) 0 ≤ j) }
-    ensures { LastRow blocks.now byte j first end result }
-{
-    let mut row = first;
-    while 1 < end - row {
-        if j < block_at(blocks, row + 1, byte) {
-            return row;
-        }
-        row += 1;
-    }
-    row
-}
-
-// The same by halves, until 8 rows are left.
-fn search_blocks(blocks: &[u16], byte: u8, j: usize, first: usize, end: usize) -> usize
-    requires { (first < end) × (end * 256 ≤ length blocks.now) × (get_or blocks.now (first * 256 + byte) 0 ≤ j) }
-    ensures { LastRow blocks.now byte j first end result }
-{
-    let mut low = first;
-    let mut high = end;
-    while 8 < high - low {
-        let middle = low + (high - low) / 2;
-        if block_at(blocks, middle, byte) <= j {
-            low = middle;
-        } else {
-            high = middle;
-        }
-    }
-    walk_blocks(blocks, byte, j, low, high)
+    last_row(superblocks, byte, j, near, end, 1)
 }
 
 // The block in which an occurrence lies, if there is one: its start and its end, how many others are
@@ -190,7 +163,7 @@ fn piece_in(part: &[u8], byte: u8, rest: usize) -> usize
     let mut i = 0;
     while 64 < part.len() - i {
         let stop = i + 64;
-        let found = count_few(&part[i..stop], byte) as usize;
+        let found = usize::from(count_few(&part[i..stop], byte));
         if left < found {
             return i;
         }
@@ -218,8 +191,8 @@ impl CountedBytes<'_> {
     {
         let row = i / self.block;
         let start = row * self.block;
-        let above = superblock_at(self.superblocks, row / self.per, byte);
-        let within = block_at(self.blocks, row, byte);
+        let above = number_at(self.superblocks, row / self.per, byte);
+        let within = number_at(self.blocks, row, byte);
         above + within + count_in(&self.bytes[start..i], byte)
     }
 
@@ -230,13 +203,13 @@ impl CountedBytes<'_> {
         ensures { BlockWith byte j self.now.bytes.now result }
     {
         let superblock = superblock_near(self.superblocks, byte, j, near);
-        let left = j - superblock_at(self.superblocks, superblock, byte);
+        let left = j - number_at(self.superblocks, superblock, byte);
         let first = superblock * self.per;
-        let end = base::least(first + self.per, self.blocks.len() / 256);
-        let row = search_blocks(self.blocks, byte, left, first, end);
-        let rest = left - block_at(self.blocks, row, byte);
+        let end = (first + self.per).min(self.blocks.len() / 256);
+        let row = last_row(self.blocks, byte, left, first, end, 8);
+        let rest = left - number_at(self.blocks, row, byte);
         let start = row * self.block;
-        let stop = base::least(start + self.block, self.bytes.len());
+        let stop = (start + self.block).min(self.bytes.len());
         Held {
             start,
             stop,
@@ -255,8 +228,7 @@ impl CountedBytes<'_> {
         let start = held.start;
         let stop = held.stop;
         let scanned = block_scan::scan(&self.bytes[start..stop], byte, held.rest);
-        let stands = scanned.stands;
-        let at = start + block_scan::position_of(stands, stop - start);
+        let at = start + block_scan::position_of(scanned.stands, stop - start);
         Occurrence {
             at,
             superblock: held.superblock,
@@ -273,7 +245,7 @@ impl CountedBytes<'_> {
         let start = held.start;
         let stop = held.stop;
         let from = start + piece_in(&self.bytes[start..stop], byte, held.rest);
-        let to = base::least(from + 64, stop);
+        let to = (from + 64).min(stop);
         Span {
             from,
             to,
@@ -288,7 +260,7 @@ impl CountedBytes<'_> {
         requires { (from ≤ length self.now.bytes.now) × (count_of byte (take from self.now.bytes.now) ≡ j) }
         ensures { result.at ≡ nth_of byte j self.now.bytes.now }
     {
-        let stop = base::least(from + 512, self.bytes.len());
+        let stop = (from + 512).min(self.bytes.len());
         let ahead = pairs::next_of(&self.bytes[from..stop], byte);
         if ahead < stop - from {
             return Occurrence {

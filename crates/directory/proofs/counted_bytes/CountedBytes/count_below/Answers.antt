@@ -7,20 +7,20 @@ use Rattle.directory.proofs.counted_bytes.CountedBytes.count_below.Goals as goal
 use Rattle.directory.proofs.counted_bytes.CountedBytes.count_below.Goals.{After-count_in}
 
 -- what is added up counts the first i bytes
-all : (c : After-count_in) → let a = c.args in c.superblock_at-above.result + c.block_at-within.result + c.count_in.result ≡ count_of a.byte (take a.i a.self.now.bytes.now)
+all : (c : After-count_in) → let a = c.args in c.number_at-above.result + c.number_at-within.result + c.count_in.result ≡ count_of a.byte (take a.i a.self.now.bytes.now)
 all c =
     let a = c.args in
-    rw (c.superblock_at-above.ensures, c.block_at-within.ensures, c.count_in.ensures)
+    rw (c.number_at-above.ensures 0, c.number_at-within.ensures 0, c.count_in.ensures)
     (parts_are a.self.now.sizes a.self.now.directory a.i a.byte c.requires c.ranges.byte.fits)
 
-pub superblock_at-above-requires : goal.superblock_at-above-requires
-superblock_at-above-requires c =
+pub number_at-above-requires : goal.number_at-above-requires
+number_at-above-requires c =
     let a = c.args in
     let s = a.self.now in
     superblock_inside s.sizes s.directory (a.i / s.block / s.per) a.byte (superblock_here s.sizes s.directory a.i a.byte c.requires c.ranges.byte.fits) c.ranges.byte.fits
 
-pub block_at-within-requires : goal.block_at-within-requires
-block_at-within-requires c =
+pub number_at-within-requires : goal.number_at-within-requires
+number_at-within-requires c =
     let a = c.args in
     let s = a.self.now in
     block_inside s.sizes s.directory (a.i / s.block) a.byte (block_here s.sizes s.directory a.i a.byte c.requires c.ranges.byte.fits) c.ranges.byte.fits
@@ -31,6 +31,8 @@ overflow_add-result c =
     let s = a.self.now in
     omega (
       arith,
+      c.number_at-above.ensures 0,
+      c.number_at-within.ensures 0,
       parts_are s.sizes s.directory a.i a.byte c.requires c.ranges.byte.fits,
       count_take_most a.byte a.i s.bytes.now,
       s.sizes.bytes_most,

@@ -32,5 +32,5 @@ overflow_add-from-2 c =
 pub returns : goal.returns
 returns c =
     let h = held (goal.at.returns c).After-piece_in in
-    let e = c.least-to.ensures in
+    let e = c.min-to.ensures in
     (h.0, omega (arith, h.1, h.2, e), omega (arith, e), omega (arith, e, c.block_with-held.ensures.inside))
