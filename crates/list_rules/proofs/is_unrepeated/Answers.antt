@@ -1,12 +1,12 @@
 -- `list_rules::is_unrepeated` meets its contract. Assumes nothing.
-use Rattle.std.proofs.Common.{◌≡◌, ℕ, ◌+◌, ◌≤◌, ◌<◌, length, sym, ◌∙◌, ap, arith, below_more}
+use Rattle.std.proofs.Common.{◌≡◌, ◌<◌, length, sym, ◌∙◌, ap, arith, below_more}
 use Rattle.hashing.proofs.HashTables.{spelled_here, index_most}
 use Rattle.hashing.proofs.Links.{link_some, link_none}
 use Rattle.hashing.specs.HashTables.{spelled_at, index_in}
 use Rattle.hashing.specs.Parts.{link_to}
 use Rattle.list_rules.proofs.Repeats.{own_none, own_not, unrepeated_yes, unrepeated_not, unrepeated_own}
 use Rattle.scanning.proofs.Scans.{Next, next_left, left_next}
-use Rattle.scanning.specs.Scans.{words_at, run_at, start_from}
+use Rattle.scanning.specs.Scans.{words_at, start_from}
 use Rattle.list_rules.proofs.is_unrepeated.Goals as goal
 use Rattle.list_rules.proofs.is_unrepeated.Goals.{After-scan_word-scan, After-find-found}
 

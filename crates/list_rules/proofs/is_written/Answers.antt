@@ -1,8 +1,8 @@
 -- `list_rules::is_written` meets its contract. Assumes nothing.
-use Rattle.std.proofs.Common.{◌≡◌, ℕ, ◌+◌, ◌<◌, Bool, true, false, ◌&&◌, length, get_or, drop, sym, ◌∙◌, ap, arith}
+use Rattle.std.proofs.Common.{ℕ, ◌+◌, ◌<◌, Bool, true, false, ◌&&◌, length, get_or, drop, sym, ◌∙◌, ap, arith}
 use Rattle.lexicon.proofs.Tables.{table_sized}
 use Rattle.lexicon.proofs.WordLists.{not_spelling_zero, not_spelling_other, is_spelling_lem}
-use Rattle.list_rules.proofs.Written.{written_after, written_after_lem, written_closing, written_letter, written_end}
+use Rattle.list_rules.proofs.Written.{written_after, written_after_lem, written_closing, written_letter}
 use Rattle.list_rules.proofs.is_written.Goals as goal
 use Rattle.list_rules.proofs.is_written.Goals.{then-byte-eq10+else-not-begun, else-byte-eq10+else-byte-eq0+else-letters-from}
 

@@ -1,5 +1,5 @@
 -- `hashing::part::Part::find` meets its contract: the look-up along the bucket, from its first word on. Assumes nothing.
-use Rattle.std.proofs.Common.{◌≡◌, ℕ, ◌-◌, ◌<◌, get_or, ◌∙◌, ap, arith}
+use Rattle.std.proofs.Common.{◌-◌, ◌<◌, get_or, ◌∙◌, ap, arith}
 use Rattle.hashing.proofs.HashTables.{bucket_below, next_in_most, next_in_bucket, index_first}
 use Rattle.hashing.specs.HashTables.{index_from}
 use Rattle.scanning.specs.Scans.{run_at, buckets}

@@ -1,5 +1,5 @@
 -- `hashing::slots::Slots::note_starts` meets its contract. Assumes nothing.
-use Rattle.std.proofs.Common.{◌≡◌, ℕ, ◌+◌, ◌<◌, length, sym, ◌∙◌, ap, arith}
+use Rattle.std.proofs.Common.{◌<◌, length, sym, ◌∙◌, ap, arith}
 use Rattle.hashing.proofs.HashTables.{bucket_below, starts_more, buckets_more, spelled_here}
 use Rattle.scanning.proofs.Scans.{next_left, left_next}
 use Rattle.scanning.specs.Scans.{words_at, run_at, start_from, bucket_of}
