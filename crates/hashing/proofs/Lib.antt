@@ -1,2 +1,3 @@
 pub mod HashTables
 pub mod Parts
+pub mod Links

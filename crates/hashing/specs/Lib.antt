@@ -1,1 +1,2 @@
 pub mod HashTables
+pub mod Parts

@@ -3,72 +3,58 @@
 #![tactic(auto)]
 
 ghost use Rattle.std.specs.Prelude.{◌≡◌, true, ◌≤◌, length, take};
-ghost use Rattle.lexicon.specs.Letters.{is_table};
+ghost use Rattle.hashing.specs.Parts.{words_of};
 ghost use Rattle.lexicon.specs.Lexicon.{distinct};
-ghost use Rattle.lexicon.specs.Reading.{text_words, spellings};
+ghost use Rattle.lexicon.specs.Reading.{text_words};
+ghost use Rattle.lookup.specs.Lookups.{count_in_part, count_listed, first_missing};
 ghost use Rattle.scanning.specs.Scans.{words_at, WordBegins};
-ghost use Rattle.hashing.specs.HashTables.{Room, HashTable};
-ghost use Rattle.lookup.specs.Lookups.{count_in, count_listed, first_missing};
+
+use hashing::{MAX_PART, Part, Slots, WordList};
 
 // How many of so many words of a text from a position on are in a part of a list.
-fn count_found(
-    table: &[u8],
-    list: &[u8],
-    from: usize,
-    count: usize,
-    heads: &[u32],
-    links: &[u32],
-    starts: &[usize],
-    text: &[u8],
-    at: usize,
-    size: usize,
-) -> usize
-    requires { (is_table table.now ≡ true) × HashTable table.now list.now from count heads.now links.now starts.now × WordBegins table.now text.now at × (size ≤ length (words_at table.now text.now at)) }
-    ensures { result ≡ count_in table.now list.now from count (take size (words_at table.now text.now at)) }
+fn count_found(part: &Part, text: &[u8], at: usize, size: usize) -> usize
+    requires { let table = part.now.list.now.letters.table.now in WordBegins table text.now at × (size ≤ length (words_at table text.now at)) }
+    ensures { result ≡ count_in_part part.now (take size (words_at part.now.list.now.letters.table.now text.now at)) }
 {
+    let letters = &part.list.letters;
     let mut start = at;
-    let mut left = size;
-    let mut found: usize = 0;
-    while 0 < left {
-        let scan = scanning::scan_word(table, text, start);
-        let bucket = scan.bucket;
-        let end = scan.end;
-        let word = hashing::find(
-            table, list, from, count, heads, links, starts, text, start, bucket,
-        );
-        if 0 < word {
+    let mut found = 0;
+    for _ in 0..size {
+        let scan = letters.scan_word(text, start);
+        let word = part.find(text, start, scan.bucket);
+        if word.is_some() {
             found += 1;
         }
-        start = scanning::word_start(table, text, end);
-        left -= 1;
+        start = letters.word_start(text, scan.end);
     }
     found
 }
 
 // How many of so many words of a text from a position on are in a list, part by part.
 pub fn count_listed(
-    table: &[u8],
-    list: &[u8],
-    words: usize,
-    heads: &mut [u32],
-    links: &mut [u32],
-    starts: &mut [usize],
+    list: &WordList,
+    slots: &mut Slots,
     text: &[u8],
     at: usize,
     size: usize,
 ) -> usize
-    requires { (is_table table.now ≡ true) × (words ≡ length (spellings table.now list.now)) × (distinct (spellings table.now list.now) ≡ true) × WordBegins table.now text.now at × (size ≤ length (words_at table.now text.now at)) × Room heads.old links.old starts.old }
-    ensures { result ≡ count_listed (spellings table.now list.now) (take size (words_at table.now text.now at)) }
+    requires { let table = list.now.letters.table.now in (distinct (words_of list.now) ≡ true) × WordBegins table text.now at × (size ≤ length (words_at table text.now at)) }
+    ensures { result ≡ count_listed (words_of list.now) (take size (words_at list.now.letters.table.now text.now at)) }
 {
-    let mut from = scanning::word_start(table, list, 0);
+    let mut from = list.letters.word_start(list.bytes, 0);
     let mut first: usize = 0;
     let mut found: usize = 0;
-    while first < words {
-        let count = base::least(words - first, hashing::MAX_PART);
-        let behind = hashing::hash_part(table, list, from, count, heads, links, starts);
-        found += count_found(
-            table, list, from, count, heads, links, starts, text, at, size,
-        );
+    while first < list.size {
+        let count = (list.size - first).min(MAX_PART);
+        let behind = slots.hash_part(list, from, count);
+        let part = Part {
+            list: &*list,
+            from,
+            count,
+            behind,
+            slots: &*slots,
+        };
+        found += count_found(&part, text, at, size);
         from = behind;
         first += count;
     }
@@ -77,28 +63,19 @@ pub fn count_listed(
 
 // The offset of the first word of a text of so many words that is not in a list; the text's length
 // where all are. A range that has such a word is halved until it is that word.
-pub fn first_unlisted(
-    table: &[u8],
-    list: &[u8],
-    words: usize,
-    heads: &mut [u32],
-    links: &mut [u32],
-    starts: &mut [usize],
-    text: &[u8],
-    size: usize,
-) -> usize
-    requires { (is_table table.now ≡ true) × (words ≡ length (spellings table.now list.now)) × (distinct (spellings table.now list.now) ≡ true) × (size ≡ length (text_words table.now text.now)) × Room heads.old links.old starts.old }
-    ensures { result ≡ first_missing (spellings table.now list.now) (length text.now) (text_words table.now text.now) }
+pub fn first_unlisted(list: &WordList, slots: &mut Slots, text: &[u8], size: usize) -> usize
+    requires { (distinct (words_of list.now) ≡ true) × (size ≡ length (text_words list.now.letters.table.now text.now)) }
+    ensures { result ≡ first_missing (words_of list.now) (length text.now) (text_words list.now.letters.table.now text.now) }
 {
-    let mut at = scanning::word_start(table, text, 0);
-    if count_listed(table, list, words, heads, links, starts, text, at, size) == size {
+    let mut at = list.letters.word_start(text, 0);
+    if count_listed(list, slots, text, at, size) == size {
         return text.len();
     }
     let mut left = size;
     while 1 < left {
         let half = left / 2;
-        if count_listed(table, list, words, heads, links, starts, text, at, half) == half {
-            at = scanning::skip_words(table, text, at, half);
+        if count_listed(list, slots, text, at, half) == half {
+            at = list.letters.skip_words(text, at, half);
             left -= half;
         } else {
             left = half;

@@ -1,6 +1,6 @@
 -- Laws of the ranks of the words of a text, written part by part. Assumes nothing.
 use Prim.Native.Nat.{ℕ, zero, suc, ◌+◌, ◌-◌, ◌≤◌, ◌<◌}
-use mathlib.Core.Path.{◌≡◌, refl, sym, ap, ◌∙◌}
+use mathlib.Core.Path.{◌≡◌, refl, sym, ap, subst, ◌∙◌}
 use mathlib.Core.Bool.{Bool, true, false, cond, false≢true}
 use mathlib.Core.Logic.{◌⊎◌, inl, inr}
 use mathlib.Core.List.{List, [], ◌∷◌, ◌++◌, map, map-append}
@@ -11,7 +11,7 @@ use lib.ListN.{length, take, get_or, set, length-set, length-append, length-map,
 use lib.Seq.{take_all, get_or-set_same, get_or-set_other, ext_get_or, get_or_at}
 use Rattle.base.proofs.Fronts.{length_front, front_inside, front_past}
 use Rattle.base.proofs.Lists.{get_d_map}
-use Rattle.base.proofs.Tests.{same_or_not, below_or_not, or_false}
+use Rattle.base.proofs.Tests.{same_or_not, below_or_not, or_false, cond_below, cond_not_below}
 use Rattle.base.specs.Answers.{front}
 use Rattle.hashing.proofs.HashTables.{index_most}
 use Rattle.hashing.specs.HashTables.{index_in}
@@ -98,6 +98,21 @@ module _ (table list : List ℕ) (from k first : ℕ) where
           other p h q (inr m) =
               let l : p < n = omega (arith, long-one) in
               get_or-set_other after n p (first + suc x - 1) 0 m ∙ r.other p (omega arith) (ap (index_in table list from k) (sym (inner p l)) ∙ q)
+
+module _ (table list : List ℕ) (from k first : ℕ) (ws : List TextWord) (w : TextWord) (before after : List ℕ) (n : ℕ) (s : length ws ≡ n) (room : n < length before)
+    (r : Ranked table list from k first ws before after) where
+  -- a word that is found
+  pub ranked_found : (i : ℕ) → index_in table list from k w.spelling ≡ suc i → Ranked table list from k first (ws ++ (w ∷ [])) before (set after n (first + i))
+  ranked_found i e =
+      let m : first + index_in table list from k w.spelling - 1 ≡ first + i = omega (arith, e) in
+      subst (λ z. Ranked table list from k first (ws ++ (w ∷ [])) before z)
+      (cond_below _ _ 0 (index_in table list from k w.spelling) (omega (arith, e)) ∙ ap (set after n) m) (ranked_more table list from k first ws w before after n s room r)
+
+  -- a word that is not
+  pub ranked_other : index_in table list from k w.spelling ≡ 0 → Ranked table list from k first (ws ++ (w ∷ [])) before after
+  ranked_other e =
+      subst (λ z. Ranked table list from k first (ws ++ (w ∷ [])) before z) (cond_not_below _ _ 0 (index_in table list from k w.spelling) (omega (arith, e)))
+      (ranked_more table list from k first ws w before after n s room r)
 
 -- the ranks of the words of a text that are among the first words of a list are written
 pub record RanksTo (words : List (List ℕ)) (ws : List TextWord) (first : ℕ) (before after : List ℕ) : Type 0 where

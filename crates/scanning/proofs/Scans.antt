@@ -348,6 +348,17 @@ some_left table text at h = go (below_or_not at (length text))
     go (inl l) = l
     go (inr l) = absurd (omega (arith, ap length (words_end table text at l)))
 
+-- the word from a position on, where so many words behind another one begin and are not the last
+pub next_left : (table text : List ℕ) (from at k : ℕ) → WordBegins table text at → words_at table text at ≡ drop k (words_at table text from)
+    → k < length (words_at table text from) → Next table text at
+next_left table text from at k b e h =
+    next table text at b (some_left table text at (omega (arith, ap length e, length-drop k (words_at table text from))))
+
+-- the word from a position on, where so many words of a text are passed and not all
+pub text_next : (table text : List ℕ) (at k : ℕ) → WordBegins table text at → words_at table text at ≡ drop k (text_words table text)
+    → k < length (text_words table text) → Next table text at
+text_next table text at k b e h = next table text at b (some_left table text at (omega (arith, ap length e, length-drop k (text_words table text))))
+
 -- nothing is left
 pub none : (n : ℕ) → n ≤ 0 → n ≡ 0
 none n h = omega arith

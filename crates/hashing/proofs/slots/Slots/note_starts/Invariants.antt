@@ -1,0 +1,13 @@
+-- The loop's invariant: the starts and the buckets of the words passed are noted, and the others are left.
+use Rattle.std.proofs.Common.{◌≡◌, drop}
+use Rattle.hashing.specs.HashTables.{Starts, Buckets}
+use Rattle.scanning.specs.Scans.{words_at, WordBegins}
+use Rattle.hashing.proofs.slots.Slots.note_starts.Given as goal
+
+abbrev pub invariant-loop-word : goal.invariant-loop-word
+invariant-loop-word l =
+    Starts l.list.letters.table.now l.list.bytes.now l.from l.word l.self.starts
+    × Buckets l.list.letters.table.now l.list.bytes.now l.from l.word l.self.links
+    × WordBegins l.list.letters.table.now l.list.bytes.now l.at
+    × (words_at l.list.letters.table.now l.list.bytes.now l.at ≡ drop l.word (words_at l.list.letters.table.now l.list.bytes.now l.from))
+    × (l.self.heads ≡ l.fn.self.heads)
