@@ -10,7 +10,7 @@ use Rattle.base.proofs.Segments.{flatten_append}
 use Rattle.base.proofs.Fronts.{written_sets}
 use Rattle.formatting.specs.Characters.{digit_of, byte_text, bytes_text}
 use Rattle.formatting.specs.Writing.{Wrote}
-use Rattle.formatting.proofs.Wrote.{wrote_length, room_second, wrote_both}
+use Rattle.formatting.proofs.Wrote.{room_second, wrote_both}
 
 -- one list more, laid behind others
 pub flatten_one : (xs : List (List ℕ)) (x : List ℕ) → flatten (xs ++ (x ∷ [])) ≡ flatten xs ++ x
@@ -37,10 +37,6 @@ length_bytes_text [] = refl
 length_bytes_text (b ∷ bytes) = omega (arith, length_bytes_text bytes)
 
 module _ (bytes : List ℕ) (at i : ℕ) (z y : List ℕ) (mid : ℕ) (room : at + 3 * length bytes ≤ length z) (first : Wrote (bytes_text (take i bytes)) at z mid y) where
-  -- the slice stays as long as it was
-  pub bytes_as_long : i ≤ length bytes → length y ≡ length z
-  bytes_as_long h = wrote_length first (omega (arith, length_bytes_text (take i bytes), length-take-le i bytes h))
-
   module _ (h : i < length bytes) where
     -- there is room for those before the i-th byte and for it
     bytes_room : at + length (bytes_text (take i bytes) ++ byte_text (get_or bytes i 0)) ≤ length z

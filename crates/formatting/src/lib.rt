@@ -21,12 +21,9 @@ pub fn write_words(words: &[u8], output: &mut [u8], at: usize) -> usize
     requires { at + length words.now ≤ length output.old }
     ensures { Wrote words.now at output.old result output.new }
 {
-    let mut i = 0;
-    while i < words.len() {
-        output[at + i] = words[i];
-        i += 1;
-    }
-    at + i
+    let end = at + words.len();
+    output[at..end].copy_from_slice(words);
+    end
 }
 
 // Writes a number in decimal.
@@ -53,7 +50,7 @@ pub fn write_byte(byte: u8, output: &mut [u8], at: usize) -> usize
     requires { at + 3 ≤ length output.old }
     ensures { Wrote (byte_text byte) at output.old result output.new }
 {
-    let value = byte as usize;
+    let value = usize::from(byte);
     output[at] = b' ';
     output[at + 1] = digit(value / 16);
     output[at + 2] = digit(value % 16);
@@ -66,10 +63,8 @@ pub fn write_bytes(bytes: &[u8], output: &mut [u8], at: usize) -> usize
     ensures { Wrote (bytes_text bytes.now) at output.old result output.new }
 {
     let mut next = at;
-    let mut i = 0;
-    while i < bytes.len() {
-        next = write_byte(bytes[i], output, next);
-        i += 1;
+    for byte in bytes {
+        next = write_byte(*byte, output, next);
     }
     next
 }

@@ -6,7 +6,7 @@ use native.Mathlib.Omega.{arith}
 use native.Mathlib.Numerals.{add-one}
 use lib.ListN.{length, take, get_or, length-append}
 use Rattle.formatting.specs.Writing.{Wrote}
-use Rattle.formatting.proofs.Wrote.{wrote_length, room_second, wrote_both}
+use Rattle.formatting.proofs.Wrote.{room_second, wrote_both}
 use Rattle.node_lines.specs.Lines.{node_line, node_lines}
 
 -- the lines of the first i + 1 nodes are those of the first i, and one more
@@ -31,10 +31,6 @@ lines_prefix k (n ∷ ns) (suc i) =
     omega (arith, length-append (node_line k n) (node_lines (suc k) (take i ns)), length-append (node_line k n) (node_lines (suc k) ns), lines_prefix (suc k) ns i)
 
 module _ (ns : List (List ℕ)) (at i : ℕ) (z y : List ℕ) (mid : ℕ) (room : at + length (node_lines 0 ns) ≤ length z) (first : Wrote (node_lines 0 (take i ns)) at z mid y) where
-  -- the slice stays as long as it was
-  pub lines_as_long : length y ≡ length z
-  lines_as_long = wrote_length first (omega (arith, lines_prefix 0 ns i))
-
   module _ (h : i < length ns) where
     -- one line more
     one_more : node_lines 0 (take (i + 1) ns) ≡ node_lines 0 (take i ns) ++ node_line i (get_or ns i [])

@@ -46,12 +46,10 @@ pub fn write_nodes(lengths: &[u32], bytes: &[u8], output: &mut [u8], at: usize) 
 {
     let mut next = at;
     let mut start: usize = 0;
-    let mut node = 0;
-    while node < lengths.len() {
-        let end = start + lengths[node] as usize;
+    for (node, length) in lengths.iter().enumerate() {
+        let end = start + *length as usize;
         next = write_node(node, &bytes[start..end], output, next);
         start = end;
-        node += 1;
     }
     next
 }

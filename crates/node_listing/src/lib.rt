@@ -1,15 +1,19 @@
 // The listing of the nodes of a stream, as the printing program of paper 01 prints it.
 //
 // The entry is `write_listing`. The other functions require what their callers have tested and are
-// no entries.
+// no entries. Their arrays have the sizes of the limits below: the answers have no number for too
+// little memory, so none is taken.
 #![tactic(auto)]
 
 ghost use Rattle.std.specs.Prelude.{◌≡◌, ◌≤◌, length};
+ghost use Rattle.base.specs.Outcomes.{answer_of};
 ghost use Rattle.formatting.specs.Writing.{Wrote};
 ghost use Rattle.node_listing.specs.Listing.{vocabulary_of, max_stream_words, max_stream_vocabulary, index_listing, text_listing, listing};
 ghost use Rattle.node_listing.specs.Calls.{max_listing, listing_answer, listing_exit};
+ghost use Rattle.node_listing.specs.Outcomes.{Listed};
 
-use base::{Answer, refusal};
+use base::Answer;
+use base::refusal::{Refusal, Refused};
 use index::Shape;
 
 // The most bytes of a listing.
@@ -28,15 +32,7 @@ const MAX_VOCABULARY: usize = 16512;
 fn vocabulary_of(text: &[u32]) -> usize
     ensures { result ≡ vocabulary_of text.now }
 {
-    let mut largest: usize = 0;
-    let mut place = 0;
-    while place < text.len() {
-        let rank = text[place] as usize;
-        if largest < rank {
-            largest = rank;
-        }
-        place += 1;
-    }
+    let largest = text.iter().map(|rank| *rank as usize).max().unwrap_or(0);
     largest + 1
 }
 
@@ -71,48 +67,66 @@ fn list_index(vocabulary: usize, text: &[u32], output: &mut [u8]) -> usize
 }
 
 // Writes the listing of a text so; refusal 1 if V is too large.
-fn list_text(text: &[u32], output: &mut [u8]) -> usize
+fn list_text(text: &[u32], output: &mut [u8]) -> Result<usize, Refusal>
     requires { (length text.now ≤ max_stream_words) × (max_listing ≤ length output.old) }
-    ensures { Wrote (text_listing text.now) 0 output.old result output.new }
+    ensures { Listed (text_listing text.now) output.old result output.new }
 {
     let vocabulary = vocabulary_of(text);
     if MAX_VOCABULARY < vocabulary {
-        return node_lines::write_refusal(refusal::VOCABULARY, output);
+        return Err(Refusal::Vocabulary);
     }
-    list_index(vocabulary, text, output)
+    Ok(list_index(vocabulary, text, output))
 }
 
 // Writes the listing of a stream so: refusal 2 if it has too many bytes or words, then refusal 15 if it
 // is broken. Reading refuses more words than there is room for before it looks for a broken codeword.
-fn list_stream(stream: &[u8], output: &mut [u8]) -> usize
+fn list_stream(stream: &[u8], output: &mut [u8]) -> Result<usize, Refusal>
     requires { max_listing ≤ length output.old }
-    ensures { Wrote (listing stream.now) 0 output.old result output.new }
+    ensures { Listed (listing stream.now) output.old result output.new }
 {
     if MAX_STREAM < stream.len() {
-        return node_lines::write_refusal(refusal::WORDS, output);
+        return Err(Refusal::Words);
     }
     let mut text = [0u32; MAX_WORDS];
     let read = dense::read_stream(stream, &mut text);
-    if read.refusal == refusal::STREAM {
-        return node_lines::write_refusal(refusal::STREAM, output);
+    if read.refusal == Refusal::Stream.number() {
+        return Err(Refusal::Stream);
     }
     if read.refusal != 0 {
-        return node_lines::write_refusal(refusal::WORDS, output);
+        return Err(Refusal::Words);
     }
     let words = read.value;
     list_text(&text[..words], output)
 }
 
-// Writes to the front of a slice what the program prints for a stream, and answers the number of
-// bytes. Refusal 5, where the slice is shorter than that, leaves it as it was.
+// Writes the listing of a stream so, or the line of its refusal.
+fn print_stream(stream: &[u8], output: &mut [u8]) -> usize
+    requires { max_listing ≤ length output.old }
+    ensures { Wrote (listing stream.now) 0 output.old result output.new }
+{
+    match list_stream(stream, output) {
+        Ok(count) => count,
+        Err(refusal) => node_lines::write_refusal(refusal.number(), output),
+    }
+}
+
+// Writes to the front of a slice what the program prints for a stream, and gives the number of bytes.
+// Refusal 5, where the slice is shorter than that, leaves it as it was.
+fn written(stream: &[u8], output: &mut [u8]) -> Result<usize, Refused>
+    ensures { (answer_of result ≡ listing_answer stream.now output.old) × (output.new ≡ listing_exit stream.now output.old) }
+{
+    let mut listing = [0u8; MAX_LISTING];
+    let count = print_stream(stream, &mut listing);
+    if output.len() < count {
+        return Err(Refusal::ShortSlice.into());
+    }
+    formatting::write_words(&listing[..count], output, 0);
+    Ok(count)
+}
+
+// The same as a call that answers.
 pub fn write_listing(stream: &[u8], output: &mut [u8]) -> Answer
     ensures { (result ≡ listing_answer stream.now output.old) × (output.new ≡ listing_exit stream.now output.old) }
 {
-    let mut listing = [0u8; MAX_LISTING];
-    let count = list_stream(stream, &mut listing);
-    if output.len() < count {
-        return Answer::refused(refusal::SHORT_SLICE);
-    }
-    formatting::write_words(&listing[..count], output, 0);
-    Answer::accepted(count)
+    written(stream, output).into()
 }
