@@ -5,288 +5,142 @@
 #![tactic(auto)]
 
 ghost use Rattle.std.specs.Prelude.{◌≡◌, true};
-ghost use Rattle.index.specs.Arrays.{Arrays, arrays, text_in};
-ghost use Rattle.words.specs.Ready.{Ready};
+ghost use Rattle.base.specs.Outcomes.{answer_of};
+ghost use Rattle.words.specs.Texts.{text_of, vocabulary_of};
 ghost use Rattle.documents.specs.Documents.{is_ascending};
 ghost use Rattle.questions.specs.Answering.{word_at_answer, occurrences_answer, place_answer, neighbours_answer, phrase_answer, question_answer};
 
-use base::{Answer, refusal};
-use index::Shape;
+use base::refusal::{Refusal, Refused};
 use questions::Question;
+use questions::kind::Kind;
 use tree::Place;
+use words::indexed_text::IndexedText;
 
 // Kind 1: the rank at a place.
-fn answer_word_at(
-    s: usize,
-    shape: Shape,
-    lengths: &[u32],
-    bytes: &[u8],
-    superblocks: &[u32],
-    blocks: &[u16],
-    starts: &[u32],
-    place: usize,
-) -> Answer
-    requires { let a : Arrays = arrays lengths.now bytes.now superblocks.now blocks.now in Ready s shape a starts.now }
-    ensures { let a : Arrays = arrays lengths.now bytes.now superblocks.now blocks.now in result ≡ word_at_answer (text_in s a) place }
+fn answer_word_at(text: &IndexedText, place: usize) -> Result<usize, Refused>
+    ensures { answer_of result ≡ word_at_answer (text_of text.now) place }
 {
-    if words::text_length(lengths) <= place {
-        return Answer::refused(refusal::PLACE);
+    if text.length() <= place {
+        return Err(Refusal::Place.into());
     }
-    let rank = words::word_at(
-        s,
-        shape,
-        lengths,
-        bytes,
-        superblocks,
-        blocks,
-        starts,
-        Place(place),
-    );
-    Answer::accepted(rank as usize)
+    let rank = text.word_at(Place(place));
+    Ok(rank as usize)
 }
 
 // Kind 2: how often a rank stands at places below a place.
-fn answer_occurrences(
-    s: usize,
-    shape: Shape,
-    lengths: &[u32],
-    bytes: &[u8],
-    superblocks: &[u32],
-    blocks: &[u16],
-    starts: &[u32],
-    rank: usize,
-    place: usize,
-) -> Answer
-    requires { let a : Arrays = arrays lengths.now bytes.now superblocks.now blocks.now in Ready s shape a starts.now }
-    ensures { let a : Arrays = arrays lengths.now bytes.now superblocks.now blocks.now in result ≡ occurrences_answer shape.vocabulary (text_in s a) rank place }
+fn answer_occurrences(text: &IndexedText, rank: usize, place: usize) -> Result<usize, Refused>
+    ensures { answer_of result ≡ occurrences_answer (vocabulary_of text.now) (text_of text.now) rank place }
 {
-    if shape.vocabulary < rank {
-        return Answer::refused(refusal::ASKED_RANK);
+    let vocabulary = text.index.shape.vocabulary;
+    if vocabulary < rank {
+        return Err(Refusal::AskedRank.into());
     }
-    if words::text_length(lengths) < place {
-        return Answer::refused(refusal::PLACE);
+    if text.length() < place {
+        return Err(Refusal::Place.into());
     }
-    if rank == shape.vocabulary {
-        return Answer::accepted(0);
+    if rank == vocabulary {
+        return Ok(0);
     }
-    Answer::accepted(words::occurrences_below(
-        s,
-        shape,
-        lengths,
-        bytes,
-        superblocks,
-        blocks,
-        starts,
-        rank,
-        Place(place),
-    ))
+    Ok(text.occurrences_below(rank, Place(place)))
 }
 
 // Kind 3: the place of the p-th of a rank, counted from 1.
-fn answer_place(
-    s: usize,
-    shape: Shape,
-    lengths: &[u32],
-    bytes: &[u8],
-    superblocks: &[u32],
-    blocks: &[u16],
-    starts: &[u32],
-    rank: usize,
-    p: usize,
-) -> Answer
-    requires { let a : Arrays = arrays lengths.now bytes.now superblocks.now blocks.now in Ready s shape a starts.now }
-    ensures { let a : Arrays = arrays lengths.now bytes.now superblocks.now blocks.now in result ≡ place_answer shape.vocabulary (text_in s a) rank p }
+fn answer_place(text: &IndexedText, rank: usize, p: usize) -> Result<usize, Refused>
+    ensures { answer_of result ≡ place_answer (vocabulary_of text.now) (text_of text.now) rank p }
 {
-    if shape.vocabulary < rank {
-        return Answer::refused(refusal::ASKED_RANK);
+    let vocabulary = text.index.shape.vocabulary;
+    if vocabulary < rank {
+        return Err(Refusal::AskedRank.into());
     }
-    if shape.vocabulary == rank {
-        return Answer::refused(refusal::PLACE);
+    if vocabulary == rank {
+        return Err(Refusal::Place.into());
     }
     if p < 1 {
-        return Answer::refused(refusal::PLACE);
+        return Err(Refusal::Place.into());
     }
-    let way = ways::way_of(s, shape, lengths, bytes, superblocks, blocks, starts, rank);
-    let first = way.first;
-    let often = words::frequency_by(
-        s,
-        shape,
-        lengths,
-        bytes,
-        superblocks,
-        blocks,
-        starts,
-        rank,
-        first,
-    );
+    let way = ways::way_of(text, rank);
+    let often = text.frequency_by(rank, way.first);
     if often < p {
-        return Answer::refused(refusal::PLACE);
+        return Err(Refusal::Place.into());
     }
-    let near = ways::nowhere(superblocks);
-    let next = ways::place_along(
-        s,
-        shape,
-        lengths,
-        bytes,
-        superblocks,
-        blocks,
-        starts,
-        rank,
-        way,
-        near,
-        p - 1,
-    );
-    Answer::accepted(next.place.0)
+    let near = ways::nowhere(text.index.superblocks);
+    let next = ways::place_along(text, rank, way, near, p - 1);
+    Ok(next.place.0)
 }
 
 // Kind 4: how often a word has another at an offset in one document.
 fn answer_neighbours(
-    s: usize,
-    shape: Shape,
-    lengths: &[u32],
-    bytes: &[u8],
-    superblocks: &[u32],
-    blocks: &[u16],
-    starts: &[u32],
+    text: &IndexedText,
     documents: &[u32],
     w: u32,
     v: u32,
     offset: i32,
-) -> Answer
-    requires { let a : Arrays = arrays lengths.now bytes.now superblocks.now blocks.now in Ready s shape a starts.now × (is_ascending documents.now ≡ true) }
-    ensures { let a : Arrays = arrays lengths.now bytes.now superblocks.now blocks.now in result ≡ neighbours_answer shape.vocabulary (text_in s a) documents.now w v offset }
+) -> Result<usize, Refused>
+    requires { is_ascending documents.now ≡ true }
+    ensures { answer_of result ≡ neighbours_answer (vocabulary_of text.now) (text_of text.now) documents.now w v offset }
 {
-    if shape.vocabulary < w as usize {
-        return Answer::refused(refusal::ASKED_RANK);
+    let vocabulary = text.index.shape.vocabulary;
+    if vocabulary < w as usize {
+        return Err(Refusal::AskedRank.into());
     }
-    if shape.vocabulary < v as usize {
-        return Answer::refused(refusal::ASKED_RANK);
+    if vocabulary < v as usize {
+        return Err(Refusal::AskedRank.into());
     }
     if offset < -Question::MAX_OFFSET {
-        return Answer::refused(refusal::OFFSET);
+        return Err(Refusal::Offset.into());
     }
     if Question::MAX_OFFSET < offset {
-        return Answer::refused(refusal::OFFSET);
+        return Err(Refusal::Offset.into());
     }
-    if w as usize == shape.vocabulary {
-        return Answer::accepted(0);
+    if w as usize == vocabulary {
+        return Ok(0);
     }
-    if v as usize == shape.vocabulary {
-        return Answer::accepted(0);
+    if v as usize == vocabulary {
+        return Ok(0);
     }
-    Answer::accepted(counts::neighbours(
-        s,
-        shape,
-        lengths,
-        bytes,
-        superblocks,
-        blocks,
-        starts,
-        documents,
-        w,
-        v,
-        offset,
-    ))
+    Ok(counts::neighbours(text, documents, w, v, offset))
 }
 
 // Kind 5: how often a phrase stands inside one document.
 fn answer_phrase(
-    s: usize,
-    shape: Shape,
-    lengths: &[u32],
-    bytes: &[u8],
-    superblocks: &[u32],
-    blocks: &[u16],
-    starts: &[u32],
+    text: &IndexedText,
     documents: &[u32],
     words: &[u32],
     start: usize,
     count: usize,
-) -> Answer
-    requires { let a : Arrays = arrays lengths.now bytes.now superblocks.now blocks.now in Ready s shape a starts.now × (is_ascending documents.now ≡ true) }
-    ensures { let a : Arrays = arrays lengths.now bytes.now superblocks.now blocks.now in result ≡ phrase_answer shape.vocabulary (text_in s a) documents.now words.now start count }
+) -> Result<usize, Refused>
+    requires { is_ascending documents.now ≡ true }
+    ensures { answer_of result ≡ phrase_answer (vocabulary_of text.now) (text_of text.now) documents.now words.now start count }
 {
     if count == 0 {
-        return phrase_checks::answer_no_words(words, start, words::text_length(lengths));
+        return phrase_checks::answer_no_words(words, start, text.length());
     }
-    let refused = phrase_checks::phrase_refusal(shape.vocabulary, words, start, count);
-    if refused != 0 {
-        return Answer::refused(refused);
+    let vocabulary = text.index.shape.vocabulary;
+    let phrase = phrase_checks::phrase_in(vocabulary, words, start, count)?;
+    if phrase_checks::has_absent(vocabulary, phrase) {
+        return Ok(0);
     }
-    if phrase_checks::has_absent(shape.vocabulary, words, start, count) {
-        return Answer::accepted(0);
-    }
-    let end = start + count;
-    Answer::accepted(counts::count_phrase(
-        s,
-        shape,
-        lengths,
-        bytes,
-        superblocks,
-        blocks,
-        starts,
-        documents,
-        &words[start..end],
-    ))
+    Ok(counts::count_phrase(text, documents, phrase))
 }
 
 // The answer to a question, by its kind.
 pub fn answer(
-    s: usize,
-    shape: Shape,
-    lengths: &[u32],
-    bytes: &[u8],
-    superblocks: &[u32],
-    blocks: &[u16],
-    starts: &[u32],
+    text: &IndexedText,
     documents: &[u32],
     words: &[u32],
     question: Question,
-) -> Answer
-    requires { let a : Arrays = arrays lengths.now bytes.now superblocks.now blocks.now in Ready s shape a starts.now × (is_ascending documents.now ≡ true) }
-    ensures { let a : Arrays = arrays lengths.now bytes.now superblocks.now blocks.now in result ≡ question_answer shape.vocabulary (text_in s a) documents.now words.now question }
+) -> Result<usize, Refused>
+    requires { is_ascending documents.now ≡ true }
+    ensures { answer_of result ≡ question_answer (vocabulary_of text.now) (text_of text.now) documents.now words.now question }
 {
-    let kind = question.kind;
     let w = question.w as usize;
-    let p = question.p;
-    if kind == 1 {
-        return answer_word_at(s, shape, lengths, bytes, superblocks, blocks, starts, p);
+    match Kind::try_from(question.kind)? {
+        Kind::WordAt => answer_word_at(text, question.p),
+        Kind::OccurrencesBelow => answer_occurrences(text, w, question.p),
+        Kind::PlaceOf => answer_place(text, w, question.p),
+        Kind::Neighbours => {
+            answer_neighbours(text, documents, question.w, question.v, question.d)
+        }
+        Kind::Phrase => answer_phrase(text, documents, words, question.start, question.length),
     }
-    if kind == 2 {
-        return answer_occurrences(s, shape, lengths, bytes, superblocks, blocks, starts, w, p);
-    }
-    if kind == 3 {
-        return answer_place(s, shape, lengths, bytes, superblocks, blocks, starts, w, p);
-    }
-    if kind == 4 {
-        return answer_neighbours(
-            s,
-            shape,
-            lengths,
-            bytes,
-            superblocks,
-            blocks,
-            starts,
-            documents,
-            question.w,
-            question.v,
-            question.d,
-        );
-    }
-    if kind == 5 {
-        return answer_phrase(
-            s,
-            shape,
-            lengths,
-            bytes,
-            superblocks,
-            blocks,
-            starts,
-            documents,
-            words,
-            question.start,
-            question.length,
-        );
-    }
-    Answer::refused(refusal::KIND)
 }

@@ -3,90 +3,54 @@
 #![tactic(auto)]
 
 ghost use Rattle.std.specs.Prelude.{◌≡◌};
+ghost use Rattle.base.specs.Outcomes.{answer_of};
 ghost use Rattle.dense.specs.Code.{Closing};
 ghost use Rattle.index.specs.Arrays.{arrays};
+ghost use Rattle.index.specs.Lent.{slices_of};
 ghost use Rattle.questions.specs.Answering.{ask_answer_in, ask_answer};
 ghost use Rattle.questions.specs.Passages.{passage_answer, passage_exit};
 
-use base::{Answer, refusal};
-use index::Shape;
+use base::Answer;
+use base::refusal::{Refusal, Refused};
+use index::{LentIndex, Shape};
 use questions::Question;
+use questions::kind::Kind;
 use tree::Place;
+use words::indexed_text::IndexedText;
 
-// Asks a question of an index with s closing values and document starts: the answer is that of the
-// papers. No table is made for the phrase of no words.
+// Asks a question of an index with document starts: the answer is that of the papers. No table is made
+// for the phrase of no words.
 pub fn ask_in_documents_of(
-    s: usize,
-    shape: Shape,
-    lengths: &[u32],
-    bytes: &[u8],
-    superblocks: &[u32],
-    blocks: &[u16],
+    index: &LentIndex,
     documents: &[u32],
     words: &[u32],
     question: Question,
-) -> Answer
-    requires { Closing s }
-    ensures { result ≡ ask_answer_in s shape (arrays lengths.now bytes.now superblocks.now blocks.now) documents.now words.now question }
+) -> Result<usize, Refused>
+    requires { Closing index.now.s }
+    ensures { answer_of result ≡ ask_answer_in index.now.s index.now.shape (slices_of index.now) documents.now words.now question }
 {
-    let checked = document_checks::check_in_documents(
-        s,
-        shape,
-        lengths,
-        bytes,
-        superblocks,
-        blocks,
-        documents,
-    );
-    if checked.refusal != 0 {
-        return checked;
-    }
-    if question.kind == 5 && question.length == 0 {
-        let n = words::text_length(lengths);
+    document_checks::check_in_documents(index, documents)?;
+    if question.kind == Kind::Phrase as u32 && question.length == 0 {
+        let n = words::text_length(index.lengths);
         return phrase_checks::answer_no_words(words, question.start, n);
     }
     let mut starts = [0u32; starts::MAX_STARTS];
-    starts::node_starts(lengths, &mut starts);
-    answering::answer(
-        s,
-        shape,
-        lengths,
-        bytes,
-        superblocks,
-        blocks,
-        &starts,
-        documents,
-        words,
-        question,
-    )
+    starts::node_starts(index.lengths, &mut starts);
+    let text = IndexedText {
+        index: *index,
+        starts: &starts,
+    };
+    answering::answer(&text, documents, words, question)
 }
 
-// Asks a question of an index with s closing values, whose text is one document.
-pub fn ask_of(
-    s: usize,
-    shape: Shape,
-    lengths: &[u32],
-    bytes: &[u8],
-    superblocks: &[u32],
-    blocks: &[u16],
-    words: &[u32],
-    question: Question,
-) -> Answer
-    requires { Closing s }
-    ensures { result ≡ ask_answer s shape (arrays lengths.now bytes.now superblocks.now blocks.now) words.now question }
+// Asks a question of an index whose text is one document.
+pub fn ask_of(index: &LentIndex, words: &[u32], question: Question) -> Result<usize, Refused>
+    requires { Closing index.now.s }
+    ensures { answer_of result ≡ ask_answer index.now.s index.now.shape (slices_of index.now) words.now question }
 {
     let zero = [0u32; 1];
-    ask_in_documents_of(
-        s,
-        shape,
-        lengths,
-        bytes,
-        superblocks,
-        blocks,
-        documents::one_start(&zero, lengths),
-        words,
-        question,
-    )
+    let documents = documents::one_start(&zero, index.lengths);
+    ask_in_documents_of(index, documents, words, question)
 }
 
 // Asks a question of an index of the published code with document starts. Refusals 1, 3, 6 and 19,
@@ -103,17 +67,15 @@ pub fn ask_in_documents(
 ) -> Answer
     ensures { result ≡ ask_answer_in 128 shape (arrays lengths.now bytes.now superblocks.now blocks.now) documents.now words.now question }
 {
-    ask_in_documents_of(
-        dense::CLOSING,
+    let index = LentIndex {
+        s: dense::CLOSING,
         shape,
         lengths,
         bytes,
         superblocks,
         blocks,
-        documents,
-        words,
-        question,
-    )
+    };
+    ask_in_documents_of(&index, documents, words, question).into()
 }
 
 // Asks a question of an index of the published code. Refusals 1, 3 and 6, then 7 to 11 as the kind
@@ -129,58 +91,39 @@ pub fn ask(
 ) -> Answer
     ensures { result ≡ ask_answer 128 shape (arrays lengths.now bytes.now superblocks.now blocks.now) words.now question }
 {
-    ask_of(
-        dense::CLOSING,
+    let index = LentIndex {
+        s: dense::CLOSING,
         shape,
         lengths,
         bytes,
         superblocks,
         blocks,
-        words,
-        question,
-    )
+    };
+    ask_of(&index, words, question).into()
 }
 
-// Reads a passage of an index with s closing values: the answer and the slice are those of paper 01.
-pub fn passage_of(
-    s: usize,
-    shape: Shape,
-    lengths: &[u32],
-    bytes: &[u8],
-    superblocks: &[u32],
-    blocks: &[u16],
-    place: usize,
-    ranks: &mut [u32],
-) -> Answer
-    requires { Closing s }
-    ensures { (result ≡ passage_answer s shape (arrays lengths.now bytes.now superblocks.now blocks.now) place ranks.old) × (ranks.new ≡ passage_exit s shape (arrays lengths.now bytes.now superblocks.now blocks.now) place ranks.old) }
+// Reads a passage of an index: the answer and the slice are those of paper 01.
+pub fn passage_of(index: &LentIndex, place: usize, ranks: &mut [u32]) -> Result<usize, Refused>
+    requires { Closing index.now.s }
+    ensures { (answer_of result ≡ passage_answer index.now.s index.now.shape (slices_of index.now) place ranks.old) × (ranks.new ≡ passage_exit index.now.s index.now.shape (slices_of index.now) place ranks.old) }
 {
-    let checked = checking::check_of(s, shape, lengths, bytes, superblocks, blocks);
-    if checked.refusal != 0 {
-        return checked;
-    }
-    let n = words::text_length(lengths);
+    checking::check_of(index)?;
+    let n = words::text_length(index.lengths);
     if n < place {
-        return Answer::refused(refusal::PLACE);
+        return Err(Refusal::Place.into());
     }
     if n - place < ranks.len() {
-        return Answer::refused(refusal::PLACE);
+        return Err(Refusal::Place.into());
     }
     let mut starts = [0u32; starts::MAX_STARTS];
-    starts::node_starts(lengths, &mut starts);
+    starts::node_starts(index.lengths, &mut starts);
+    let text = IndexedText {
+        index: *index,
+        starts: &starts,
+    };
     let from = Place(place);
-    passages::read_passage(
-        s,
-        shape,
-        lengths,
-        bytes,
-        superblocks,
-        blocks,
-        &starts,
-        from,
-        ranks,
-    );
-    Answer::accepted(ranks.len())
+    passages::read_passage(&text, from, ranks);
+    Ok(ranks.len())
 }
 
 // Fills a whole slice with the ranks from a place on; an empty slice is filled for any place up to
@@ -196,14 +139,13 @@ pub fn passage(
 ) -> Answer
     ensures { (result ≡ passage_answer 128 shape (arrays lengths.now bytes.now superblocks.now blocks.now) place ranks.old) × (ranks.new ≡ passage_exit 128 shape (arrays lengths.now bytes.now superblocks.now blocks.now) place ranks.old) }
 {
-    passage_of(
-        dense::CLOSING,
+    let index = LentIndex {
+        s: dense::CLOSING,
         shape,
         lengths,
         bytes,
         superblocks,
         blocks,
-        place,
-        ranks,
-    )
+    };
+    passage_of(&index, place, ranks).into()
 }

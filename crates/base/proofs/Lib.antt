@@ -12,3 +12,4 @@ pub mod Answers
 pub mod Fronts
 pub mod Texts
 pub mod StdWords
+pub mod Outcomes

@@ -3,86 +3,56 @@
 // function of this crate is an entry.
 #![tactic(auto)]
 
-ghost use Rattle.std.specs.Prelude.{ℕ, ◌+◌, ◌≤◌, ◌≡◌, List, eqb, ltb, length};
-ghost use Rattle.base.specs.Lists.{first_where};
+ghost use Rattle.std.specs.Prelude.{ℕ, ◌+◌, ◌≤◌, ◌≡◌, List, length, MatchResult};
 ghost use Rattle.base.specs.Texts.{max_words};
+ghost use Rattle.base.specs.Outcomes.{number_of, answer_of};
 ghost use Rattle.questions.specs.Answering.{has_absent, phrase_in, phrase_refusal, phrase_answer};
 
-use base::{Answer, refusal};
+use base::refusal::{Refusal, Refused};
 use questions::Question;
 
-// Where the first of the words of a phrase stands that is above a bound; their number where none is.
-fn first_above(phrase: &[u32], bound: usize) -> usize
-    ensures { result ≡ first_where (λ w. ltb bound w) phrase.now }
+// Whether a phrase has an absent word, whose rank is the vocabulary's size.
+pub fn has_absent(vocabulary: usize, phrase: &[u32]) -> bool
+    ensures { result ≡ has_absent vocabulary phrase.now }
 {
-    let mut place = 0;
-    while place < phrase.len() {
-        let rank = phrase[place] as usize;
-        if bound < rank {
-            return place;
-        }
-        place += 1;
-    }
-    place
+    phrase.iter().any(|&rank| rank as usize == vocabulary)
 }
 
-// Where the first of the words of a phrase stands that is a rank; their number where none is.
-fn first_of(phrase: &[u32], sought: usize) -> usize
-    ensures { result ≡ first_where (λ w. eqb w sought) phrase.now }
-{
-    let mut place = 0;
-    while place < phrase.len() {
-        let rank = phrase[place] as usize;
-        if rank == sought {
-            return place;
-        }
-        place += 1;
-    }
-    place
-}
-
-// Whether a phrase that lies in the lent words has an absent word, whose rank is the vocabulary's
-// size.
-pub fn has_absent(vocabulary: usize, words: &[u32], start: usize, count: usize) -> bool
-    requires { start + count ≤ length words.now }
-    ensures { result ≡ has_absent vocabulary (phrase_in words.now start count) }
-{
-    let end = start + count;
-    let place = first_of(&words[start..end], vocabulary);
-    place < count
-}
-
-// The number of the refusal of a phrase, 8 or 9; 0 where its part lies in the lent words, has up to
-// 16 of them, and none is above the vocabulary's size. One of no words lies in them if it starts
+// The phrase in a part of the lent words. Refusals 8 and 9: its part lies in the lent words, has up
+// to 16 of them, and none is above the vocabulary's size. One of no words lies in them if it starts
 // among them or at their end.
-pub fn phrase_refusal(vocabulary: usize, words: &[u32], start: usize, count: usize) -> u32
-    ensures { result ≡ phrase_refusal vocabulary words.now start count }
+pub fn phrase_in<'a>(
+    vocabulary: usize,
+    words: &'a [u32],
+    start: usize,
+    count: usize,
+) -> Result<&'a [u32], Refusal>
+    ensures { MatchResult result (λ phrase. (phrase_refusal vocabulary words.now start count ≡ 0) × (phrase.now ≡ phrase_in words.now start count)) (λ e. phrase_refusal vocabulary words.now start count ≡ number_of e) }
 {
     if Question::MAX_PHRASE < count {
-        return refusal::PHRASE;
+        return Err(Refusal::Phrase);
     }
     if words.len() < start {
-        return refusal::PHRASE;
+        return Err(Refusal::Phrase);
     }
     if words.len() - start < count {
-        return refusal::PHRASE;
+        return Err(Refusal::Phrase);
     }
-    let end = start + count;
-    let place = first_above(&words[start..end], vocabulary);
-    if place < count {
-        return refusal::ASKED_RANK;
+    let phrase = &words[start..start + count];
+    if phrase.iter().any(|&rank| vocabulary < rank as usize) {
+        return Err(Refusal::AskedRank);
     }
-    0
+    Ok(phrase)
 }
 
 // Kind 5 of a phrase of no words, in a text of n words: it stands at every place from 0 to n, if it
 // starts among the lent words or at their end.
-pub fn answer_no_words(words: &[u32], start: usize, n: usize) -> Answer
+pub fn answer_no_words(words: &[u32], start: usize, n: usize) -> Result<usize, Refused>
     requires { n ≤ max_words }
-    ensures { (vocab : ℕ) (t documents : List ℕ) → length t ≡ n → result ≡ phrase_answer vocab t documents words.now start 0 }
+    ensures { (vocab : ℕ) (t documents : List ℕ) → length t ≡ n → answer_of result ≡ phrase_answer vocab t documents words.now start 0 }
 {
     if start <= words.len() {
-        return Answer::accepted(n + 1);
+        return Ok(n + 1);
     }
-    Answer::refused(refusal::PHRASE)
+    Err(Refusal::Phrase.into())
 }

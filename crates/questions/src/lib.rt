@@ -2,8 +2,12 @@
 // and the passage that is read, is defined in `specs/`; the laws of the answers are in `proofs/`.
 #![tactic(auto)]
 
+pub mod kind;
+
 ghost use Rattle.std.specs.Prelude.{◌≡◌};
 ghost use Rattle.questions.specs.Makers.{asks_word_at, asks_occurrences_below, asks_place_of, asks_neighbours, asks_phrase};
+
+use kind::Kind;
 
 // A question: its kind, ranks w and v, offset d, number p, and a part of the lent phrase words.
 #[repr(C)]
@@ -30,7 +34,7 @@ impl Question {
         ensures { result ≡ asks_word_at p }
     {
         Question {
-            kind: 1,
+            kind: Kind::WordAt as u32,
             w: 0,
             v: 0,
             d: 0,
@@ -45,7 +49,7 @@ impl Question {
         ensures { result ≡ asks_occurrences_below w p }
     {
         Question {
-            kind: 2,
+            kind: Kind::OccurrencesBelow as u32,
             w,
             v: 0,
             d: 0,
@@ -60,7 +64,7 @@ impl Question {
         ensures { result ≡ asks_place_of w p }
     {
         Question {
-            kind: 3,
+            kind: Kind::PlaceOf as u32,
             w,
             v: 0,
             d: 0,
@@ -75,7 +79,7 @@ impl Question {
         ensures { result ≡ asks_neighbours w v d }
     {
         Question {
-            kind: 4,
+            kind: Kind::Neighbours as u32,
             w,
             v,
             d,
@@ -90,7 +94,7 @@ impl Question {
         ensures { result ≡ asks_phrase start length }
     {
         Question {
-            kind: 5,
+            kind: Kind::Phrase as u32,
             w: 0,
             v: 0,
             d: 0,
