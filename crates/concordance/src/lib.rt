@@ -197,40 +197,34 @@ pub fn concordance_answer_sheet_in_documents(
 ) -> Answer
     ensures { (result ≡ sheet_answer 128 shape (arrays lengths.now bytes.now superblocks.now blocks.now) documents.now (length questions.now) (length answers.old)) × (answers.new ≡ sheet_exit 128 shape (arrays lengths.now bytes.now superblocks.now blocks.now) documents.now words.now questions.now answers.old) }
 {
-    let mut starts = [0u32; starts::MAX_STARTS];
-    let answer = sheets::prepare(
-        dense::CLOSING,
+    let index = LentIndex {
+        s: dense::CLOSING,
         shape,
         lengths,
         bytes,
         superblocks,
         blocks,
+    };
+    let mut starts = [0u32; starts::MAX_STARTS];
+    let size = match sheets::prepare(
+        &index,
         documents,
         questions.len(),
         answers.len(),
         &mut starts,
-    );
-    if answer.refusal != 0 {
-        return answer;
-    }
+    ) {
+        Ok(size) => size,
+        Err(refused) => return Err(refused).into(),
+    };
+    let text = IndexedText {
+        index,
+        starts: &starts,
+    };
     let mut i = 0;
     while i < questions.len() {
-        i = sheets::answer_next(
-            dense::CLOSING,
-            shape,
-            lengths,
-            bytes,
-            superblocks,
-            blocks,
-            &starts,
-            documents,
-            words,
-            questions[i],
-            answers,
-            i,
-        );
+        i = sheets::answer_next(&text, documents, words, questions[i], answers, i);
     }
-    answer
+    Answer::accepted(size)
 }
 
 // Fills a whole slice with the ranks from a place on, and answers its length; an empty slice is

@@ -2,16 +2,19 @@
 // one document.
 #![tactic(auto)]
 
-ghost use Rattle.std.specs.Prelude.{◌≡◌, true, false, length};
-ghost use Rattle.base.specs.Answers.{is_accepted};
+ghost use Rattle.std.specs.Prelude.{◌≡◌, length, MatchResult};
+ghost use Rattle.base.specs.Answers.{accepted, refused, refused_at};
+ghost use Rattle.base.specs.Outcomes.{number_of};
 ghost use Rattle.dense.specs.Code.{Closing};
 ghost use Rattle.index.specs.Arrays.{arrays, text_in};
+ghost use Rattle.index.specs.Lent.{slices_of};
 ghost use Rattle.documents.specs.Documents.{one_start};
-ghost use Rattle.questions.specs.Answering.{has_absent, phrase_in};
-ghost use Rattle.listing.specs.Paging.{opened, unwritten, call_of, request_answer, page_answer, page_of};
+ghost use Rattle.questions.specs.Answering.{phrase_in};
+ghost use Rattle.listing.specs.Paging.{opened, unwritten, call_of, request_answer, page_of};
 
-use base::{Answer, refusal};
-use index::Shape;
+use base::Answer;
+use base::refusal::{Refusal, Refused};
+use index::{LentIndex, Shape};
 use tree::Place;
 
 // The state of a listing, which each page takes and hands back: the next place, and whether it is
@@ -43,6 +46,17 @@ impl Page {
             listing,
         }
     }
+
+    // A page of a refused call.
+    fn refused(refused: Refused, listing: Listing) -> Page
+        ensures { result ≡ unwritten (refused_at (number_of refused.refusal) refused.at) listing }
+    {
+        let answer = Answer {
+            refusal: refused.refusal.number(),
+            value: refused.at,
+        };
+        Page::unwritten(answer, listing)
+    }
 }
 
 impl Listing {
@@ -72,21 +86,17 @@ impl Listing {
     ) -> Page
         ensures { (result ≡ (page_of (call_of 128 shape (arrays lengths.now bytes.now superblocks.now blocks.now) (one_start (length (text_in 128 (arrays lengths.now bytes.now superblocks.now blocks.now)))) words.now start count lines.old) self).page) × (lines.new ≡ (page_of (call_of 128 shape (arrays lengths.now bytes.now superblocks.now blocks.now) (one_start (length (text_in 128 (arrays lengths.now bytes.now superblocks.now blocks.now)))) words.now start count lines.old) self).lines) }
     {
-        let zero = [0u32; 1];
-        page_of(
-            self,
-            dense::CLOSING,
+        let index = LentIndex {
+            s: dense::CLOSING,
             shape,
             lengths,
             bytes,
             superblocks,
             blocks,
-            documents::one_start(&zero, lengths),
-            words,
-            start,
-            count,
-            lines,
-        )
+        };
+        let zero = [0u32; 1];
+        let documents = documents::one_start(&zero, lengths);
+        page_of(self, &index, documents, words, start, count, lines)
     }
 
     // The next page of the listing of the places where the phrase stands inside one document, by the
@@ -107,82 +117,74 @@ impl Listing {
     ) -> Page
         ensures { (result ≡ (page_of (call_of 128 shape (arrays lengths.now bytes.now superblocks.now blocks.now) documents.now words.now start count lines.old) self).page) × (lines.new ≡ (page_of (call_of 128 shape (arrays lengths.now bytes.now superblocks.now blocks.now) documents.now words.now start count lines.old) self).lines) }
     {
-        page_of(
-            self,
-            dense::CLOSING,
+        let index = LentIndex {
+            s: dense::CLOSING,
             shape,
             lengths,
             bytes,
             superblocks,
             blocks,
-            documents,
-            words,
-            start,
-            count,
-            lines,
-        )
+        };
+        page_of(self, &index, documents, words, start, count, lines)
     }
 }
 
-// The answer of the tests of a page call after those of its index and of its starts: of the phrase,
-// of the next place in a text of n words, and of the page's room; 0 accepted where none refuses.
-fn request_answer(
+// The phrase of a page call whose index and starts have passed: the tests of the phrase, then of the
+// next place in a text of n words, and of the page's room.
+fn requested<'a>(
     vocabulary: usize,
-    words: &[u32],
+    words: &'a [u32],
     start: usize,
     count: usize,
     n: usize,
     next: usize,
     room: usize,
-) -> Answer
-    ensures { result ≡ request_answer vocabulary words.now start count n next room }
+) -> Result<&'a [u32], Refusal>
+    ensures { MatchResult result (λ phrase. (request_answer vocabulary words.now start count n next room ≡ accepted 0) × (phrase.now ≡ phrase_in words.now start count)) (λ e. request_answer vocabulary words.now start count n next room ≡ refused (number_of e)) }
 {
-    let refused = phrase_checks::phrase_refusal(vocabulary, words, start, count);
-    if refused != 0 {
-        return Answer::refused(refused);
-    }
+    let phrase = phrase_checks::phrase_in(vocabulary, words, start, count)?;
     if n < next {
-        return Answer::refused(refusal::PLACE);
+        return Err(Refusal::Place);
     }
     if room == 0 {
-        return Answer::refused(refusal::PAGE);
+        return Err(Refusal::Page);
     }
-    Answer::accepted(0)
+    Ok(phrase)
 }
 
-// The page of an accepted call over a state that is not finished, of a phrase without an absent word.
-fn written_page(
+// A page of a listing with document starts: all that it returns and writes is that of the papers.
+pub fn page_of(
     state: Listing,
-    s: usize,
-    shape: Shape,
-    lengths: &[u32],
-    bytes: &[u8],
-    superblocks: &[u32],
-    blocks: &[u16],
+    index: &LentIndex,
     documents: &[u32],
     words: &[u32],
     start: usize,
     count: usize,
     lines: &mut [u32],
 ) -> Page
-    requires { Closing s × (is_accepted (page_answer (call_of s shape (arrays lengths.now bytes.now superblocks.now blocks.now) documents.now words.now start count lines.old) state) ≡ true) × (state.finished ≡ false)
-        × (has_absent shape.vocabulary (phrase_in words.now start count) ≡ false) }
-    ensures { (result ≡ (page_of (call_of s shape (arrays lengths.now bytes.now superblocks.now blocks.now) documents.now words.now start count lines.old) state).page) × (lines.new ≡ (page_of (call_of s shape (arrays lengths.now bytes.now superblocks.now blocks.now) documents.now words.now start count lines.old) state).lines) }
+    requires { Closing index.now.s }
+    ensures { (result ≡ (page_of (call_of index.now.s index.now.shape (slices_of index.now) documents.now words.now start count lines.old) state).page) × (lines.new ≡ (page_of (call_of index.now.s index.now.shape (slices_of index.now) documents.now words.now start count lines.old) state).lines) }
 {
-    let end = start + count;
-    let next = Place(state.next);
-    let written = paging::write_page(
-        s,
-        shape,
-        lengths,
-        bytes,
-        superblocks,
-        blocks,
-        documents,
-        &words[start..end],
-        next,
-        lines,
-    );
+    if let Err(refused) = document_checks::check_in_documents(index, documents) {
+        return Page::refused(refused, state);
+    }
+    let n = words::text_length(index.lengths);
+    let vocabulary = index.shape.vocabulary;
+    let phrase = match requested(vocabulary, words, start, count, n, state.next, lines.len()) {
+        Ok(phrase) => phrase,
+        Err(refusal) => return Page::refused(refusal.into(), state),
+    };
+    if state.finished {
+        return Page::unwritten(Answer::accepted(0), state);
+    }
+    if phrase_checks::has_absent(vocabulary, phrase) {
+        let end = Listing {
+            next: n,
+            finished: true,
+        };
+        return Page::unwritten(Answer::accepted(0), end);
+    }
+    let written = paging::write_page(index, documents, phrase, Place(state.next), lines);
     Page {
         answer: Answer::accepted(written.count),
         more: written.more,
@@ -191,67 +193,4 @@ fn written_page(
             finished: written.finished,
         },
     }
-}
-
-// A page of a listing with s closing values and document starts: all that it returns and writes is
-// that of the papers.
-pub fn page_of(
-    state: Listing,
-    s: usize,
-    shape: Shape,
-    lengths: &[u32],
-    bytes: &[u8],
-    superblocks: &[u32],
-    blocks: &[u16],
-    documents: &[u32],
-    words: &[u32],
-    start: usize,
-    count: usize,
-    lines: &mut [u32],
-) -> Page
-    requires { Closing s }
-    ensures { (result ≡ (page_of (call_of s shape (arrays lengths.now bytes.now superblocks.now blocks.now) documents.now words.now start count lines.old) state).page) × (lines.new ≡ (page_of (call_of s shape (arrays lengths.now bytes.now superblocks.now blocks.now) documents.now words.now start count lines.old) state).lines) }
-{
-    let checked = document_checks::check_in_documents(
-        s,
-        shape,
-        lengths,
-        bytes,
-        superblocks,
-        blocks,
-        documents,
-    );
-    if checked.refusal != 0 {
-        return Page::unwritten(checked, state);
-    }
-    let n = words::text_length(lengths);
-    let room = lines.len();
-    let request = request_answer(shape.vocabulary, words, start, count, n, state.next, room);
-    if request.refusal != 0 {
-        return Page::unwritten(request, state);
-    }
-    if state.finished {
-        return Page::unwritten(Answer::accepted(0), state);
-    }
-    if phrase_checks::has_absent(shape.vocabulary, words, start, count) {
-        let end = Listing {
-            next: n,
-            finished: true,
-        };
-        return Page::unwritten(Answer::accepted(0), end);
-    }
-    written_page(
-        state,
-        s,
-        shape,
-        lengths,
-        bytes,
-        superblocks,
-        blocks,
-        documents,
-        words,
-        start,
-        count,
-        lines,
-    )
 }
