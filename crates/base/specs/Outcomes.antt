@@ -38,12 +38,16 @@ abbrev pub number_of_test : Result ⊤ Refusal → ℕ
 number_of_test (Ok _) = 0
 number_of_test (Err refusal) = number_of refusal
 
+-- the answer of a refused call
+abbrev pub refused_answer : Refused → Answer
+refused_answer e = refused_at (number_of e.refusal) e.at
+
 -- the answer of a call that gives a value
 abbrev pub answer_of : Result ℕ Refused → Answer
 answer_of (Ok value) = accepted value
-answer_of (Err e) = refused_at (number_of e.refusal) e.at
+answer_of (Err e) = refused_answer e
 
 -- the answer of a call that tests: 0 where nothing refuses
 abbrev pub test_answer : Result ⊤ Refused → Answer
 test_answer (Ok _) = accepted 0
-test_answer (Err e) = refused_at (number_of e.refusal) e.at
+test_answer (Err e) = refused_answer e

@@ -7,7 +7,7 @@ pub mod refusal;
 ghost use Rattle.std.specs.Prelude.{◌≡◌, min, leb};
 ghost use Rattle.base.specs.Lists.{first_where};
 ghost use Rattle.base.specs.Answers.{accepted, refused, refused_at};
-ghost use Rattle.base.specs.Outcomes.{answer_of, test_answer};
+ghost use Rattle.base.specs.Outcomes.{refused_answer, answer_of, test_answer};
 
 use refusal::Refused;
 
@@ -60,16 +60,24 @@ impl Answer {
     }
 }
 
+impl From<Refused> for Answer {
+    ghost from_gives = { λ refused answer. answer ≡ refused_answer refused };
+
+    fn from(refused: Refused) -> Answer {
+        Answer {
+            refusal: refused.refusal.number(),
+            value: refused.at,
+        }
+    }
+}
+
 impl From<Result<usize, Refused>> for Answer {
     ghost from_gives = { λ outcome answer. answer ≡ answer_of outcome };
 
     fn from(outcome: Result<usize, Refused>) -> Answer {
         match outcome {
             Ok(value) => Answer::accepted(value),
-            Err(refused) => Answer {
-                refusal: refused.refusal.number(),
-                value: refused.at,
-            },
+            Err(refused) => refused.into(),
         }
     }
 }
@@ -80,10 +88,7 @@ impl From<Result<(), Refused>> for Answer {
     fn from(outcome: Result<(), Refused>) -> Answer {
         match outcome {
             Ok(()) => Answer::accepted(0),
-            Err(refused) => Answer {
-                refusal: refused.refusal.number(),
-                value: refused.at,
-            },
+            Err(refused) => refused.into(),
         }
     }
 }

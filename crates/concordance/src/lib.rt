@@ -22,11 +22,12 @@ ghost use Rattle.lent_tables.specs.Calls.{read_text_with_answer, read_text_with_
 ghost use Rattle.sheet_calls.specs.Sheets.{sheet_answer, sheet_exit};
 
 use base::Answer;
-use index::Shape;
+use index::{LentIndex, Shape};
 use list_calls::ListMade;
 use listing::{Listing, Page};
 use measuring::{IndexSizes, Measured};
 use questions::Question;
+use words::indexed_text::IndexedText;
 
 // Writes a text as a stream to the front of a slice, and answers the number of bytes. Refusals 1, 2,
 // 4 with the first place whose rank is not below the vocabulary's size, and 5 leave the slice as it
@@ -206,23 +207,18 @@ pub fn concordance_answer_sheet_in_documents(
         blocks,
     };
     let mut starts = [0u32; starts::MAX_STARTS];
-    let size = match sheets::prepare(
-        &index,
-        documents,
-        questions.len(),
-        answers.len(),
-        &mut starts,
-    ) {
+    let asked = questions.len();
+    let room = answers.len();
+    let size = match sheets::prepare(&index, documents, asked, room, &mut starts) {
         Ok(size) => size,
-        Err(refused) => return Err(refused).into(),
+        Err(refused) => return refused.into(),
     };
     let text = IndexedText {
         index,
         starts: &starts,
     };
-    let mut i = 0;
-    while i < questions.len() {
-        i = sheets::answer_next(&text, documents, words, questions[i], answers, i);
+    for (i, question) in questions.iter().enumerate() {
+        sheets::answer_one(&text, documents, words, *question, answers, i);
     }
     Answer::accepted(size)
 }

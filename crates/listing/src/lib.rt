@@ -3,8 +3,8 @@
 #![tactic(auto)]
 
 ghost use Rattle.std.specs.Prelude.{◌≡◌, length, MatchResult};
-ghost use Rattle.base.specs.Answers.{accepted, refused, refused_at};
-ghost use Rattle.base.specs.Outcomes.{number_of};
+ghost use Rattle.base.specs.Answers.{accepted, refused};
+ghost use Rattle.base.specs.Outcomes.{number_of, refused_answer};
 ghost use Rattle.dense.specs.Code.{Closing};
 ghost use Rattle.index.specs.Arrays.{arrays, text_in};
 ghost use Rattle.index.specs.Lent.{slices_of};
@@ -49,13 +49,9 @@ impl Page {
 
     // A page of a refused call.
     fn refused(refused: Refused, listing: Listing) -> Page
-        ensures { result ≡ unwritten (refused_at (number_of refused.refusal) refused.at) listing }
+        ensures { result ≡ unwritten (refused_answer refused) listing }
     {
-        let answer = Answer {
-            refusal: refused.refusal.number(),
-            value: refused.at,
-        };
-        Page::unwritten(answer, listing)
+        Page::unwritten(refused.into(), listing)
     }
 }
 

@@ -41,21 +41,20 @@ pub fn prepare(
     Ok(2 * asked)
 }
 
-// Answers question i of a sheet inside the documents, writes its pair, the refusal or 0 and the value,
-// at its place among the answers, and gives the number of the next question.
-pub fn answer_next(
+// Answers question i of a sheet inside the documents, and writes its pair, the refusal or 0 and the
+// value, at its place among the answers.
+pub fn answer_one(
     text: &IndexedText,
     documents: &[u32],
     words: &[u32],
     question: Question,
     answers: &mut [u32],
     i: usize,
-) -> usize
+)
     requires { (is_ascending documents.now ≡ true) × (2 * i + 1 < length answers.old) }
-    ensures { (result ≡ i + 1) × (answers.new ≡ written (pair_of (question_answer (vocabulary_of text.now) (text_of text.now) documents.now words.now question)) (2 * i) answers.old) }
+    ensures { answers.new ≡ written (pair_of (question_answer (vocabulary_of text.now) (text_of text.now) documents.now words.now question)) (2 * i) answers.old }
 {
     let answer = Answer::from(answering::answer(text, documents, words, question));
     answers[2 * i] = answer.refusal;
     answers[2 * i + 1] = answer.value as u32;
-    i + 1
 }
