@@ -1,6 +1,6 @@
 -- What a call answers that hands on the refusal of another. Assumes nothing.
-use Rattle.std.proofs.Common.{◌≡◌, sym, ap, ◌∙◌, ℕ, arith}
-use Rattle.std.specs.Prelude.{Result, Ok, Err, ⊤, IsErrAnd}
+use Rattle.std.proofs.Common.{◌≡◌, sym, ap, subst, ◌∙◌, ℕ, arith}
+use Rattle.std.specs.Prelude.{Result, Ok, Err, ⊤, IsErrAnd, MatchResult}
 use Rattle.base.specs.declared.Answer.{Answer}
 use Rattle.base.specs.declared.refusal.Refusal.{Refusal}
 use Rattle.base.specs.declared.refusal.Refusal.TheVariants.{Vocabulary, Words, Blocks, TextRank, ShortSlice, Index, Kind, Phrase, AskedRank, Offset, Place, Page, WordList, Unlisted, Stream, Sizes, ListMaking, Table, Documents}
@@ -59,3 +59,8 @@ tested_err r x a was is =
 -- and what one that does not answers
 pub tested_ok : (r : Result ⊤ Refused) (v : ⊤) (a : Answer) → r ≡ Ok v → test_answer r ≡ a → a ≡ accepted 0
 tested_ok r v a was is = sym is ∙ ap test_answer was
+
+-- a call that hands an error on gives what is said of that error
+pub match_err : {A E : Type 0} (P : A → Type 0) (Q : E → Type 0) (r : Result A E) (x : E) → IsErrAnd r (λ e. e ≡ x) → Q x → MatchResult r P Q
+match_err P Q (Ok v) x h q = absurd h
+match_err P Q (Err e) x h q = subst Q (sym h) q

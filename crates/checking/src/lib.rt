@@ -6,42 +6,40 @@
 
 ghost use Rattle.std.specs.Prelude.{◌≡◌, ◌<◌, length};
 ghost use Rattle.base.specs.Lists.{total};
+ghost use Rattle.base.specs.Outcomes.{test_answer};
 ghost use Rattle.dense.specs.Code.{Closing};
 ghost use Rattle.starts.specs.Starts.{max_starts};
 ghost use Rattle.index.specs.Arrays.{arrays, passes as arraysPass};
+ghost use Rattle.index.specs.Lent.{slices_of};
 ghost use Rattle.index.specs.Entries.{check_answer};
 ghost use Rattle.index.specs.Exact.{WithinLimits};
 
-use base::{Answer, refusal};
-use index::Shape;
+use base::Answer;
+use base::refusal::{Refusal, Refused};
+use directory::CountedBytes;
+use index::{LentIndex, Shape};
 
 // The sum of the node lengths.
 pub fn total_length(lengths: &[u32]) -> usize
     requires { length lengths.now < max_starts }
     ensures { result ≡ total lengths.now }
 {
-    let mut sum: usize = 0;
-    let mut node = 0;
-    while node < lengths.len() {
-        sum += lengths[node] as usize;
-        node += 1;
+    let mut sum = 0;
+    for length in lengths {
+        sum += *length as usize;
     }
     sum
 }
 
 // Whether the four slices are the index of some text of the vocabulary.
-pub fn passes(
-    s: usize,
-    shape: Shape,
-    lengths: &[u32],
-    bytes: &[u8],
-    superblocks: &[u32],
-    blocks: &[u16],
-) -> bool
-    requires { Closing s × WithinLimits s shape }
-    ensures { result ≡ arraysPass s shape (arrays lengths.now bytes.now superblocks.now blocks.now) }
+pub fn passes(index: &LentIndex) -> bool
+    requires { Closing index.now.s × WithinLimits index.now.s index.now.shape }
+    ensures { result ≡ arraysPass index.now.s index.now.shape (slices_of index.now) }
 {
-    if lengths.len() != tree::node_count(s, shape.vocabulary) {
+    let lengths = index.lengths;
+    let bytes = index.bytes;
+    let shape = index.shape;
+    if lengths.len() != tree::node_count(index.s, shape.vocabulary) {
         return false;
     }
     if base::MAX_BYTES < bytes.len() {
@@ -56,32 +54,29 @@ pub fn passes(
     }
     let block = shape.block;
     let per = shape.per_superblock;
-    if !counter_checks::verify(bytes, superblocks, blocks, block, per) {
+    if !counter_checks::verify(bytes, index.superblocks, index.blocks, block, per) {
         return false;
     }
-    node_checks::nodes_pass(s, shape, lengths, bytes, superblocks, blocks)
+    let counted = CountedBytes {
+        bytes,
+        superblocks: index.superblocks,
+        blocks: index.blocks,
+        block,
+        per,
+    };
+    node_checks::nodes_pass(index, &counted)
 }
 
-// Checks an index with s closing values: the answer is that of paper 01.
-pub fn check_of(
-    s: usize,
-    shape: Shape,
-    lengths: &[u32],
-    bytes: &[u8],
-    superblocks: &[u32],
-    blocks: &[u16],
-) -> Answer
-    requires { Closing s }
-    ensures { result ≡ check_answer s shape (arrays lengths.now bytes.now superblocks.now blocks.now) }
+// Checks an index: the answer is that of paper 01.
+pub fn check_of(index: &LentIndex) -> Result<(), Refused>
+    requires { Closing index.now.s }
+    ensures { test_answer result ≡ check_answer index.now.s index.now.shape (slices_of index.now) }
 {
-    let refused = index::limits_refusal(s, shape);
-    if refused != 0 {
-        return Answer::refused(refused);
+    index::check_limits(index.s, index.shape)?;
+    if !passes(index) {
+        return Err(Refusal::Index.into());
     }
-    if !passes(s, shape, lengths, bytes, superblocks, blocks) {
-        return Answer::refused(refusal::INDEX);
-    }
-    Answer::accepted(0)
+    Ok(())
 }
 
 // Checks an index of the published code: 0 is answered exactly if some text of the vocabulary has
@@ -95,5 +90,13 @@ pub fn check(
 ) -> Answer
     ensures { result ≡ check_answer 128 shape (arrays lengths.now bytes.now superblocks.now blocks.now) }
 {
-    check_of(dense::CLOSING, shape, lengths, bytes, superblocks, blocks)
+    let index = LentIndex {
+        s: dense::CLOSING,
+        shape,
+        lengths,
+        bytes,
+        superblocks,
+        blocks,
+    };
+    check_of(&index).into()
 }
