@@ -2,81 +2,68 @@
 // occurrences of a rank: where it stands with j others before it, and the part of the root in which
 // it next stands. A walk passes at most three nodes.
 //
-// No function of this crate is an entry: the public ones require that the four slices have passed
-// the check and that `starts` is a table that `starts::node_starts` has filled, the others what their
-// callers have shown. What they answer is defined over the text of the slices.
+// No function of this crate is an entry: an indexed text has passed the check, and the rest is what
+// the callers have shown. What the functions answer is defined over the text.
 #![tactic(auto)]
 
 pub mod lent;
 
 ghost use Rattle.std.specs.Prelude.{◌≡◌, ◌+◌, ◌≤◌, ◌<◌, length, get_or, take};
 ghost use Rattle.base.specs.Lists.{count_of, nth};
-ghost use Rattle.index.specs.Arrays.{Arrays, arrays, text_in};
 ghost use Rattle.words.specs.Words.{occurrences_below, frequency};
-ghost use Rattle.words.specs.Ready.{node_from, Counted, Ready};
-ghost use Rattle.words.specs.Steps.{StepIn};
+ghost use Rattle.words.specs.Texts.{text_of, vocabulary_of, bytes_of_node};
 ghost use Rattle.ways.specs.Ways.{WayOf, TrackOf};
+ghost use Rattle.ways.specs.Asks.{Asks};
 
 use directory::Span;
-use index::Shape;
 use tree::{Place, Position};
 use words::Step;
+use words::indexed_text::IndexedText;
 
 // The way of a rank from the node where its codeword ends up to the root: as many steps as its
-// codeword has bytes.
+// codeword has bytes, the first and those above it. No heap is here, so the array has room for the
+// longest way.
 #[derive(Clone, Copy)]
 pub struct Way {
     pub length: usize,
     pub first: Step,
-    pub second: Step,
-    pub third: Step,
+    pub above: [Step; 2],
 }
 
 // The way of a rank: its closing byte in the node where its codeword ends, and from each node other
 // than the root its digit in the parent.
-pub fn way_of(
-    s: usize,
-    shape: Shape,
-    lengths: &[u32],
-    bytes: &[u8],
-    superblocks: &[u32],
-    blocks: &[u16],
-    starts: &[u32],
-    rank: usize,
-) -> Way
-    requires { let a : Arrays = arrays lengths.now bytes.now superblocks.now blocks.now in Ready s shape a starts.now × (rank < shape.vocabulary) }
-    ensures { let a : Arrays = arrays lengths.now bytes.now superblocks.now blocks.now in WayOf s a.bytes starts.now rank result }
+pub fn way_of(text: &IndexedText, rank: usize) -> Way
+    requires { rank < vocabulary_of text.now }
+    ensures { WayOf text.now.index.s text.now.index.bytes.now text.now.starts.now rank result }
 {
+    let s = text.index.s;
     let node = tree::node_of(s, rank);
     let byte = tree::closing_byte(s, rank);
-    let first = words::step_in(shape, bytes, superblocks, blocks, starts, node, byte);
+    let first = text.step_in(node, byte);
     if node == 0 {
         return Way {
             length: 1,
             first,
-            second: first,
-            third: first,
+            above: [first; 2],
         };
     }
     let up = tree::parent(s, node);
     let digit = tree::digit(s, node);
-    let second = words::step_in(shape, bytes, superblocks, blocks, starts, up, digit);
+    let second = text.step_in(up, digit);
     if up == 0 {
         return Way {
             length: 2,
             first,
-            second,
-            third: second,
+            above: [second; 2],
         };
     }
     let top = tree::parent(s, up);
     let lead = tree::digit(s, up);
-    let third = words::step_in(shape, bytes, superblocks, blocks, starts, top, lead);
+    let third = text.step_in(top, lead);
     Way {
         length: 3,
         first,
-        second,
-        third,
+        above: [second, third],
     }
 }
 
@@ -85,8 +72,7 @@ pub fn way_of(
 #[derive(Clone, Copy)]
 pub struct Near {
     pub first: usize,
-    pub second: usize,
-    pub third: usize,
+    pub above: [usize; 2],
 }
 
 // No row: each step seeks among all.
@@ -94,8 +80,7 @@ pub fn nowhere(superblocks: &[u32]) -> Near {
     let rows = superblocks.len();
     Near {
         first: rows,
-        second: rows,
-        third: rows,
+        above: [rows; 2],
     }
 }
 
@@ -108,26 +93,13 @@ struct Located {
 
 // The position in the node of a step of the byte that has j others equal to it before it in the
 // node, sought near a superblock row.
-fn nth_in_node(
-    shape: Shape,
-    bytes: &[u8],
-    superblocks: &[u32],
-    blocks: &[u16],
-    starts: &[u32],
-    step: Step,
-    j: usize,
-    near: usize,
-) -> Located
-    requires { Counted shape bytes.now superblocks.now blocks.now starts.now step.node × StepIn bytes.now starts.now step.node step.byte step × (j < count_of step.byte (node_from bytes.now starts.now step.node)) }
-    ensures { result.at.0 ≡ nth step.byte j (node_from bytes.now starts.now step.node) }
+fn nth_in_node(text: &IndexedText, step: Step, j: usize, near: usize) -> Located
+    requires { Asks text.now step j }
+    ensures { result.at.0 ≡ nth step.byte j (bytes_of_node text.now step.node) }
 {
-    let node = step.node;
-    let start = starts[node] as usize;
-    let block = shape.block;
-    let per = shape.per_superblock;
-    let byte = step.byte;
+    let start = text.start_of(step.node);
     let ordinal = step.skipped + j;
-    let found = directory::nth(bytes, superblocks, blocks, block, per, byte, ordinal, near);
+    let found = text.counted().nth(step.byte, ordinal, near);
     let at = found.at - start;
     Located {
         at: Position(at),
@@ -144,120 +116,37 @@ pub struct Next {
 
 // The place at which a rank stands with j others of it before it, along its way: up from its closing
 // byte in the node where its codeword ends, to the root, where a position is a place.
-pub fn place_along(
-    s: usize,
-    shape: Shape,
-    lengths: &[u32],
-    bytes: &[u8],
-    superblocks: &[u32],
-    blocks: &[u16],
-    starts: &[u32],
-    rank: usize,
-    way: Way,
-    near: Near,
-    j: usize,
-) -> Next
-    requires { let a : Arrays = arrays lengths.now bytes.now superblocks.now blocks.now in Ready s shape a starts.now × (rank < shape.vocabulary) × WayOf s a.bytes starts.now rank way × (j < frequency (text_in s a) rank) }
-    ensures { let a : Arrays = arrays lengths.now bytes.now superblocks.now blocks.now in result.place.0 ≡ nth rank j (text_in s a) }
+pub fn place_along(text: &IndexedText, rank: usize, way: Way, near: Near, j: usize) -> Next
+    requires { (rank < vocabulary_of text.now) × WayOf text.now.index.s text.now.index.bytes.now text.now.starts.now rank way × (j < frequency (text_of text.now) rank) }
+    ensures { result.place.0 ≡ nth rank j (text_of text.now) }
 {
-    let first = way.first;
-    let low = nth_in_node(
-        shape,
-        bytes,
-        superblocks,
-        blocks,
-        starts,
-        first,
-        j,
-        near.first,
-    );
-    if way.length == 1 {
-        return Next {
-            place: tree::root_place(low.at),
-            near: Near {
-                first: low.superblock,
-                second: 0,
-                third: 0,
-            },
-        };
+    let low = nth_in_node(text, way.first, j, near.first);
+    let mut at = low.at;
+    let mut above = near.above;
+    for i in 0..way.length - 1 {
+        let found = nth_in_node(text, way.above[i], at.0, above[i]);
+        at = found.at;
+        above[i] = found.superblock;
     }
-    let second = way.second;
-    let middle = nth_in_node(
-        shape,
-        bytes,
-        superblocks,
-        blocks,
-        starts,
-        second,
-        low.at.0,
-        near.second,
-    );
-    if way.length == 2 {
-        return Next {
-            place: tree::root_place(middle.at),
-            near: Near {
-                first: low.superblock,
-                second: middle.superblock,
-                third: 0,
-            },
-        };
-    }
-    let third = way.third;
-    let high = nth_in_node(
-        shape,
-        bytes,
-        superblocks,
-        blocks,
-        starts,
-        third,
-        middle.at.0,
-        near.third,
-    );
     Next {
-        place: tree::root_place(high.at),
+        place: tree::root_place(at),
         near: Near {
             first: low.superblock,
-            second: middle.superblock,
-            third: high.superblock,
+            above,
         },
     }
 }
 
 // The position in the node of a step of the byte that has j others equal to it before it in the
 // node, where as many stand before a position of the node: read on from there.
-fn next_in_node(
-    shape: Shape,
-    bytes: &[u8],
-    superblocks: &[u32],
-    blocks: &[u16],
-    starts: &[u32],
-    step: Step,
-    at: Position,
-    j: usize,
-    near: usize,
-) -> Located
-    requires { Counted shape bytes.now superblocks.now blocks.now starts.now step.node × StepIn bytes.now starts.now step.node step.byte step × (j < count_of step.byte (node_from bytes.now starts.now step.node))
-        × (at.0 ≤ length (node_from bytes.now starts.now step.node)) × (count_of step.byte (take at.0 (node_from bytes.now starts.now step.node)) ≡ j) }
-    ensures { result.at.0 ≡ nth step.byte j (node_from bytes.now starts.now step.node) }
+fn next_in_node(text: &IndexedText, step: Step, at: Position, j: usize, near: usize) -> Located
+    requires { Asks text.now step j × (at.0 ≤ length (bytes_of_node text.now step.node)) × (count_of step.byte (take at.0 (bytes_of_node text.now step.node)) ≡ j) }
+    ensures { result.at.0 ≡ nth step.byte j (bytes_of_node text.now step.node) }
 {
-    let node = step.node;
-    let start = starts[node] as usize;
-    let block = shape.block;
-    let per = shape.per_superblock;
-    let byte = step.byte;
+    let start = text.start_of(step.node);
     let ordinal = step.skipped + j;
     let from = start + at.0;
-    let found = directory::nth_from(
-        bytes,
-        superblocks,
-        blocks,
-        block,
-        per,
-        byte,
-        ordinal,
-        from,
-        near,
-    );
+    let found = text.counted().nth_from(step.byte, ordinal, from, near);
     let position = found.at - start;
     Located {
         at: Position(position),
@@ -267,26 +156,13 @@ fn next_in_node(
 
 // The piece of the root in which the byte of a step that has j others before it lies; exactly, that
 // byte itself. The root is where the bytes begin.
-fn piece_in_root(
-    shape: Shape,
-    bytes: &[u8],
-    superblocks: &[u32],
-    blocks: &[u16],
-    starts: &[u32],
-    step: Step,
-    j: usize,
-    near: usize,
-    exact: bool,
-) -> Span
-    requires { Counted shape bytes.now superblocks.now blocks.now starts.now step.node × StepIn bytes.now starts.now step.node step.byte step × (j < count_of step.byte (node_from bytes.now starts.now step.node))
-        × (get_or starts.now step.node 0 ≡ 0) }
-    ensures { (result.from ≤ nth step.byte j (node_from bytes.now starts.now step.node)) × (nth step.byte j (node_from bytes.now starts.now step.node) < result.to) }
+fn piece_in_root(text: &IndexedText, step: Step, j: usize, near: usize, exact: bool) -> Span
+    requires { Asks text.now step j × (get_or text.now.starts.now step.node 0 ≡ 0) }
+    ensures { (result.from ≤ nth step.byte j (bytes_of_node text.now step.node)) × (nth step.byte j (bytes_of_node text.now step.node) < result.to) }
 {
-    let block = shape.block;
-    let per = shape.per_superblock;
-    let byte = step.byte;
+    let counted = text.counted();
     if exact {
-        let found = directory::nth(bytes, superblocks, blocks, block, per, byte, j, near);
+        let found = counted.nth(step.byte, j, near);
         let at = found.at;
         return Span {
             from: at,
@@ -294,7 +170,7 @@ fn piece_in_root(
             superblock: found.superblock,
         };
     }
-    directory::piece_of(bytes, superblocks, blocks, block, per, byte, j, near)
+    counted.piece_of(step.byte, j, near)
 }
 
 // A walk along the occurrences of a rank: how many are passed, the position in the node where its
@@ -307,37 +183,15 @@ pub struct Track {
 }
 
 // A walk that has passed the occurrences of a rank below a place of the text or its end.
-pub fn track_from(
-    s: usize,
-    shape: Shape,
-    lengths: &[u32],
-    bytes: &[u8],
-    superblocks: &[u32],
-    blocks: &[u16],
-    starts: &[u32],
-    rank: usize,
-    place: Place,
-) -> Track
-    requires { let a : Arrays = arrays lengths.now bytes.now superblocks.now blocks.now in Ready s shape a starts.now × (rank < shape.vocabulary) × (place.0 ≤ length (text_in s a)) }
-    ensures { let a : Arrays = arrays lengths.now bytes.now superblocks.now blocks.now in TrackOf s a.bytes starts.now rank result × (result.ordinal ≡ occurrences_below (text_in s a) rank place.0) }
+pub fn track_from(text: &IndexedText, rank: usize, place: Place) -> Track
+    requires { (rank < vocabulary_of text.now) × (place.0 ≤ length (text_of text.now)) }
+    ensures { TrackOf text.now.index.s text.now.index.bytes.now text.now.starts.now rank result × (result.ordinal ≡ occurrences_below (text_of text.now) rank place.0) }
 {
-    let passed = words::count_below(
-        s,
-        shape,
-        lengths,
-        bytes,
-        superblocks,
-        blocks,
-        starts,
-        rank,
-        place,
-    );
-    let at = passed.at;
-    let near = nowhere(superblocks);
+    let passed = text.count_below(rank, place);
     Track {
         ordinal: passed.count,
-        at,
-        near,
+        at: passed.at,
+        near: nowhere(text.index.superblocks),
     }
 }
 
@@ -353,39 +207,17 @@ pub struct Stretch {
 // The part of the root in which the occurrence after those that a walk has passed stands: along its
 // way, from its closing byte in the node where its codeword ends up to the root, where a position is
 // a place. Exactly, its place alone; otherwise its piece, and the place is not looked for.
-pub fn piece_along(
-    s: usize,
-    shape: Shape,
-    lengths: &[u32],
-    bytes: &[u8],
-    superblocks: &[u32],
-    blocks: &[u16],
-    starts: &[u32],
-    rank: usize,
-    way: Way,
-    track: Track,
-    exact: bool,
-) -> Stretch
-    requires { let a : Arrays = arrays lengths.now bytes.now superblocks.now blocks.now in Ready s shape a starts.now × (rank < shape.vocabulary) × WayOf s a.bytes starts.now rank way × TrackOf s a.bytes starts.now rank track × (track.ordinal < frequency (text_in s a) rank) }
-    ensures { let a : Arrays = arrays lengths.now bytes.now superblocks.now blocks.now in (result.from ≤ nth rank track.ordinal (text_in s a)) × (nth rank track.ordinal (text_in s a) < result.to)
-        × TrackOf s a.bytes starts.now rank result.track × (result.track.ordinal ≡ track.ordinal + 1) }
+pub fn piece_along(text: &IndexedText, rank: usize, way: Way, track: Track, exact: bool) -> Stretch
+    requires { (rank < vocabulary_of text.now) × WayOf text.now.index.s text.now.index.bytes.now text.now.starts.now rank way × TrackOf text.now.index.s text.now.index.bytes.now text.now.starts.now rank track × (track.ordinal < frequency (text_of text.now) rank) }
+    ensures { (result.from ≤ nth rank track.ordinal (text_of text.now)) × (nth rank track.ordinal (text_of text.now) < result.to)
+        × TrackOf text.now.index.s text.now.index.bytes.now text.now.starts.now rank result.track × (result.track.ordinal ≡ track.ordinal + 1) }
 {
-    let first = way.first;
     let j = track.ordinal;
-    let near = track.near;
-    let low = next_in_node(
-        shape,
-        bytes,
-        superblocks,
-        blocks,
-        starts,
-        first,
-        track.at,
-        j,
-        near.first,
-    );
+    let low = next_in_node(text, way.first, track.at, j, track.near.first);
     let at = Position(low.at.0 + 1);
     let ordinal = j + 1;
+    let first = low.superblock;
+    let mut above = track.near.above;
     if way.length == 1 {
         return Stretch {
             from: low.at.0,
@@ -393,74 +225,26 @@ pub fn piece_along(
             track: Track {
                 ordinal,
                 at,
-                near: Near {
-                    first: low.superblock,
-                    second: 0,
-                    third: 0,
-                },
+                near: Near { first, above },
             },
         };
     }
-    let second = way.second;
-    if way.length == 2 {
-        let piece = piece_in_root(
-            shape,
-            bytes,
-            superblocks,
-            blocks,
-            starts,
-            second,
-            low.at.0,
-            near.second,
-            exact,
-        );
-        return Stretch {
-            from: piece.from,
-            to: piece.to,
-            track: Track {
-                ordinal,
-                at,
-                near: Near {
-                    first: low.superblock,
-                    second: piece.superblock,
-                    third: 0,
-                },
-            },
-        };
+    let last = way.length - 2;
+    let mut position = low.at;
+    for i in 0..last {
+        let found = nth_in_node(text, way.above[i], position.0, above[i]);
+        position = found.at;
+        above[i] = found.superblock;
     }
-    let middle = nth_in_node(
-        shape,
-        bytes,
-        superblocks,
-        blocks,
-        starts,
-        second,
-        low.at.0,
-        near.second,
-    );
-    let third = way.third;
-    let high = piece_in_root(
-        shape,
-        bytes,
-        superblocks,
-        blocks,
-        starts,
-        third,
-        middle.at.0,
-        near.third,
-        exact,
-    );
+    let piece = piece_in_root(text, way.above[last], position.0, above[last], exact);
+    above[last] = piece.superblock;
     Stretch {
-        from: high.from,
-        to: high.to,
+        from: piece.from,
+        to: piece.to,
         track: Track {
             ordinal,
             at,
-            near: Near {
-                first: low.superblock,
-                second: middle.superblock,
-                third: high.superblock,
-            },
+            near: Near { first, above },
         },
     }
 }
