@@ -9,16 +9,17 @@ use borrow.Author.Tests.{eq-eqb, ne_eqb}
 use lib.Dec.{eqb}
 use lib.ListN.{length, get_or, set, drop, length-append, length-set}
 use lib.Seq.{set-append_left, get_or-set_same, get_or-set_other}
-use Rattle.base.specs.Lists.{All, filter_by, range_from}
+use Rattle.base.specs.Lists.{filter_by, range_from}
 use Rattle.base.specs.Answers.{front}
 use Rattle.base.proofs.Tests.{same_or_not}
 use Rattle.base.proofs.Lists.{filter_append, filter_most}
-use Rattle.base.proofs.Ranges.{length_map_range, get_d-map_range, map_range_is, length_filter_range, all_filter_range}
+use Rattle.base.proofs.Ranges.{length_map_range, get_d-map_range, map_range_is, length_filter_range}
 use Rattle.base.proofs.Fronts.{front_is, front_inside}
 use Rattle.documents.specs.Documents.{document_of, are_starts, stands_in}
 use Rattle.documents.proofs.Numbers.{document_some}
 use Rattle.documents.proofs.Inside.{anchored_in}
 use Rattle.hits.specs.Hits.{hits_between}
+use Rattle.hits.proofs.Left.{is_one}
 
 -- how many of some places lie in document k, counted from 0, and in each document, in order
 abbrev pub count_among : List ℕ → List ℕ → ℕ → ℕ
@@ -92,14 +93,8 @@ module _ (starts t ws xs rest : List ℕ) (q : ℕ) (some : 1 ≤ length ws) (ru
     (is : hits_between (stands_in starts t ws) 0 (suc (length t)) ≡ xs ++ q ∷ rest) where
   -- lies in a document
   pub hit_numbered : 1 ≤ document_of starts q
-  hit_numbered = document_some (length t) starts q rules (omega (arith, (anchored_in starts t ws 0 some).inside q stood))
-    where
-      last : (P : ℕ → Type 0) (ys : List ℕ) → All P (ys ++ q ∷ rest) → P q
-      last P [] h = h.0
-      last P (y ∷ ys) h = last P ys h.1
-
-      stood : stands_in starts t ws q ≡ true
-      stood = last (λ (p : ℕ). stands_in starts t ws p ≡ true) xs (rw is at (all_filter_range (stands_in starts t ws) (λ (p : ℕ). stands_in starts t ws p ≡ true) 0 (suc (length t) - 0) (λ i a b e. e)))
+  hit_numbered =
+      document_some (length t) starts q rules (omega (arith, (anchored_in starts t ws 0 some).inside q (is_one (stands_in starts t ws) 0 (length t) xs rest q is).1))
 
   -- and there are few before it
   pub hits_few : length xs ≤ length t

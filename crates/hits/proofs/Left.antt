@@ -1,5 +1,7 @@
 -- What one search takes of the hits that are left. Assumes nothing.
-use Rattle.std.proofs.Common.{Bool, List, MatchOption, None, Option, Some, [], ap, arith, length, map, refl, sym, ℕ, ◌++◌, ◌∙◌, ◌∷◌, ◌≡◌, ◌≤◌}
+use Rattle.std.proofs.Common.{Bool, List, MatchOption, None, Option, Some, [], ap, append-nil, arith, length, map, refl, suc, sym, true, ℕ, ◌++◌, ◌-◌, ◌∙◌, ◌∷◌, ◌≡◌, ◌≤◌}
+use Rattle.base.specs.Lists.{All}
+use Rattle.base.proofs.Ranges.{all_filter_range}
 use Rattle.std.specs.Iterator.{MakesProgress, item_count, Yields, YieldsFirstBy}
 use native.Mathlib.Nat.{sub_self}
 use Rattle.tree.specs.declared.Place.{Place}
@@ -30,3 +32,24 @@ goes_on s (Some q) x on e a =
 pub split : (s t : Hits) (xs : List Place) → Yields (YieldsFirstBy (λ (place : Place). place.0) hits_left) s xs t → hits_left s ≡ map (λ (place : Place). place.0) xs ++ hits_left t
 split s t [] y = ap hits_left y
 split s t (x ∷ xs) y = y.1 ∙ ap (λ (qs : List ℕ). x.0 ∷ qs) (split y.0 t xs y.2)
+
+-- so that at a turn of a `for` over them the hits are those so far, the hit and the ones that are left
+pub at_turn : {all rest : List ℕ} (h s t : Hits) (xs : List Place) (q : Place) → hits_left h ≡ all → s ≡ h
+    → Yields (YieldsFirstBy (λ (place : Place). place.0) hits_left) s xs t → hits_left t ≡ q.0 ∷ rest → all ≡ map (λ (place : Place). place.0) xs ++ q.0 ∷ rest
+at_turn h s t xs q is e y step =
+    sym is ∙ ap hits_left (sym e) ∙ split s t xs y ∙ ap (λ (qs : List ℕ). map (λ (place : Place). place.0) xs ++ qs) step
+
+-- and at its end they are those so far
+pub at_end : {all : List ℕ} (h s t : Hits) (xs : List Place) → hits_left h ≡ all → s ≡ h
+    → Yields (YieldsFirstBy (λ (place : Place). place.0) hits_left) s xs t → hits_left t ≡ [] → all ≡ map (λ (place : Place). place.0) xs
+at_end h s t xs is e y none =
+    sym is ∙ ap hits_left (sym e) ∙ split s t xs y ∙ ap (λ (qs : List ℕ). map (λ (place : Place). place.0) xs ++ qs) none ∙ append-nil (map (λ (place : Place). place.0) xs)
+
+-- each of the hits up to the end of a text is one, and stands in the text or at its end
+pub is_one : (P : ℕ → Bool) (from n : ℕ) (xs rest : List ℕ) (q : ℕ) → hits_between P from (suc n) ≡ xs ++ q ∷ rest → (q ≤ n) × (P q ≡ true)
+is_one P from n xs rest q is =
+    there xs (rw is at (all_filter_range P (λ (p : ℕ). (p ≤ n) × (P p ≡ true)) from (suc n - from) (λ i a b e. (omega arith, e))))
+  where
+    there : (ys : List ℕ) → All (λ (p : ℕ). (p ≤ n) × (P p ≡ true)) (ys ++ q ∷ rest) → (q ≤ n) × (P q ≡ true)
+    there [] h = h.0
+    there (y ∷ ys) h = there ys h.1

@@ -1,5 +1,5 @@
 -- Each hit lies in a document, whose count is small.
-use Rattle.std.proofs.Common.{◌≡◌, ℕ, ◌+◌, ◌-◌, ◌≤◌, ◌<◌, suc, map, List, [], ◌∷◌, ◌++◌, length, get_or, set, sym, ap, ◌∙◌, arith, append-nil}
+use Rattle.std.proofs.Common.{◌≡◌, ℕ, ◌+◌, ◌-◌, ◌≤◌, ◌<◌, suc, map, List, [], ◌∷◌, ◌++◌, length, get_or, set, sym, ap, ◌∙◌, arith}
 use Rattle.std.proofs.lemmas.List.{map-append}
 use Rattle.base.specs.Lists.{filter_by, range_from}
 use native.Mathlib.Nat.{sub-zero}
@@ -15,7 +15,7 @@ use Rattle.documents.proofs.Numbers.{document_most}
 use Rattle.matching.proofs.FirstBytes.{first_bytes_part}
 use Rattle.hits.specs.Hits.{hits_between}
 use Rattle.hits.specs.Left.{hits_left}
-use Rattle.hits.proofs.Left.{split}
+use Rattle.hits.proofs.Left.{at_turn, at_end}
 use Rattle.document_counts.proofs.Counts.{count_among, counts_among, count_few_lem, count_stands, count_more, hit_numbered, hits_few}
 use Rattle.document_counts.proofs.count_by_document.Goals as goal
 use Rattle.document_counts.proofs.count_by_document.Goals.{In-Some}
@@ -52,11 +52,7 @@ module _ (c : In-Some) where
   hit = c.in-Some.place.0
 
   parted : hits_between (stands_in d t c.args.words.now) 0 (suc (length t)) ≡ so_far ++ hit ∷ hits_left c.next.new.self
-  parted =
-      sym c.hits_from-place-items.ensures.left
-      ∙ ap hits_left (sym c.into_iter-place-iterator.ensures.into_iter_gives)
-      ∙ split _ _ c.loop-place.yielded c.loop-place.yielded_by
-      ∙ ap (λ (qs : List ℕ). so_far ++ qs) c.in-Some.ensures.steps
+  parted = at_turn _ _ _ c.loop-place.yielded c.in-Some.place c.hits_from-place-items.ensures.left c.into_iter-place-iterator.ensures.into_iter_gives c.loop-place.yielded_by c.in-Some.ensures.steps
 
   numbered : 1 ≤ document_of d hit
   numbered = hit_numbered d t c.args.words.now so_far (hits_left c.next.new.self) hit c.requires.0 c.requires.3 parted
@@ -98,12 +94,7 @@ returns c =
     let d = c.args.documents.now in
     let t = text_of c.args.text.now in
     let xs = map (λ (p : Place). p.0) c.loop-place.yielded in
-    let all : hits_between (stands_in d t c.args.words.now) 0 (suc (length t)) ≡ xs =
-    sym c.hits_from-place-items.ensures.left
-    ∙ ap hits_left (sym c.into_iter-place-iterator.ensures.into_iter_gives)
-    ∙ split _ _ c.loop-place.yielded c.loop-place.yielded_by
-    ∙ ap (λ (qs : List ℕ). xs ++ qs) c.in-None.ensures.steps.0
-    ∙ append-nil xs in
+    let all : hits_between (stands_in d t c.args.words.now) 0 (suc (length t)) ≡ xs = at_end _ _ _ c.loop-place.yielded c.hits_from-place-items.ensures.left c.into_iter-place-iterator.ensures.into_iter_gives c.loop-place.yielded_by c.in-None.ensures.steps.0 in
     c.loop-place.invariant
     ∙ over_zeros d xs c.args.counts.now c.clear_counts.new.counts c.requires.4 c.clear_counts.ensures
     ∙ ap (λ (qs : List ℕ). front (counts_among d qs) c.args.counts.now) (sym all ∙ ap (λ (n : ℕ). filter_by (stands_in d t c.args.words.now) (range_from 0 n)) (sub-zero (suc (length t))))
