@@ -17,11 +17,9 @@ pub fn node_starts(lengths: &[u32], starts: &mut [u32])
     ensures { NodeStarts lengths.now starts.new }
 {
     let mut start: u32 = 0;
-    let mut node = 0;
-    while node < lengths.len() {
+    for (node, length) in lengths.iter().enumerate() {
         starts[node] = start;
-        start += lengths[node];
-        node += 1;
+        start += *length;
     }
-    starts[node] = start;
+    starts[lengths.len()] = start;
 }

@@ -8,21 +8,21 @@ fn main(rt: HostRuntime) -> io::Result<()> {
     let mut stream = [0u8; 8192];
     let mut text = [0u32; 8192];
     let n = reading::read_full(&mut rt.reader(), &mut stream)?;
-    let a = dense::read_stream(&stream[..n], &mut text);
-    printing::answer(&rt, a)?;
-    printing::words(&rt, b"\n")?;
-    if a.refusal == 0 {
-        show(&rt, &text, a.value)?;
+    let words = dense::read_stream_of(dense::CLOSING, &stream[..n], &mut text);
+    printing::answer(&rt, words.into())?;
+    println!(rt; "")?;
+    if let Ok(count) = words {
+        show(&rt, &text, count)?;
     }
     Ok(())
 }
 
 // Prints the first ranks of a text.
 fn show(rt: &impl Print, text: &[u32], count: usize) -> io::Result<()> {
-    if count <= text.len() {
-        printing::words(rt, b"ranks")?;
-        printing::ranks(rt, &text[..count])?;
-        printing::words(rt, b"\n")?;
+    if let Some(ranks) = text.get(..count) {
+        print!(rt; "ranks")?;
+        printing::ranks(rt, ranks)?;
+        println!(rt; "")?;
     }
     Ok(())
 }

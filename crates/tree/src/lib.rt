@@ -14,7 +14,7 @@ pub struct Place(pub usize);
 #[derive(Clone, Copy)]
 pub struct Position(pub usize);
 
-// The position in the root of a place.
+// The position in the root of a place. No `From`: in another node the place has another position.
 pub fn root_position(place: Place) -> Position
     ensures { result ≡ root_position place }
 {
@@ -41,7 +41,7 @@ pub fn child(s: usize, node: usize, byte: u8) -> usize
     requires { Closing s × (node < max_nodes s) }
     ensures { result ≡ child s node byte }
 {
-    (256 - s) * node + 1 + byte as usize
+    (256 - s) * node + 1 + usize::from(byte)
 }
 
 // The node of which a node other than the root is a child.
