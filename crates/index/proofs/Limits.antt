@@ -1,7 +1,7 @@
 -- The tests of V, B and b hold exactly if they are not within their limits. Assumes nothing.
 use Prim.Native.Nat.{ℕ, ◌*◌, ◌≤◌, ◌<◌}
 use mathlib.Core.Path.{◌≡◌, sym, ◌∙◌}
-use mathlib.Core.Bool.{Bool, true, false, ◌||◌, false≢true}
+use mathlib.Core.Bool.{true, false, ◌||◌, false≢true}
 use mathlib.Core.Logic.{◌⊎◌, inl, inr}
 use native.Mathlib.Omega.{arith}
 use borrow.Author.Tests.{eq-eqb, ne_eqb, lt-ltb, le-ltb}
@@ -10,11 +10,8 @@ use Rattle.base.specs.Texts.{max_superblock, outside}
 use Rattle.base.proofs.Tests.{below_or_not, or_false, or_left, or_right, inside_range, range_inside}
 use Rattle.dense.specs.Code.{max_vocabulary}
 use Rattle.index.specs.declared.Shape.{Shape}
+use Rattle.index.specs.Entries.{blocks_outside}
 use Rattle.index.specs.Exact.{WithinLimits}
-
--- the test of B and b
-abbrev pub blocks_outside : ℕ → ℕ → Bool
-blocks_outside block per = eqb block 0 || eqb per 0 || ltb max_superblock (block * per)
 
 module _ (block per : ℕ) where
   pub no_block : block ≡ 0 → blocks_outside block per ≡ true

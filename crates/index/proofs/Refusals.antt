@@ -7,7 +7,11 @@ use native.Mathlib.Omega.{arith}
 use borrow.Author.Tests.{lt-ltb, le-ltb, ltb-false, not-false}
 use lib.Dec.{leb}
 use lib.ListN.{length}
+use Rattle.std.specs.Prelude.{⊤, Result, Ok, Err, MatchResult}
 use Rattle.base.specs.declared.Answer.{Answer}
+use Rattle.base.specs.declared.refusal.Refusal.{Refusal}
+use Rattle.base.specs.declared.refusal.Refusal.TheVariants.{Blocks}
+use Rattle.base.specs.Outcomes.{number_of, number_of_test}
 use Rattle.base.specs.Lists.{first_where}
 use Rattle.base.specs.Refusals.{refusal_vocabulary, refusal_words, refusal_blocks, refusal_text_rank, refusal_short_slice, refusal_index}
 use Rattle.base.specs.Answers.{accepted, refused, refused_at, is_accepted, first_of, NoneHolds, front}
@@ -19,9 +23,9 @@ use Rattle.dense.specs.Code.{Closing, max_vocabulary, vocabulary_case}
 use Rattle.directory.specs.Counters.{blocks_case}
 use Rattle.index.specs.declared.Shape.{Shape}
 use Rattle.index.specs.Arrays.{Arrays, arrays, index_of, passes}
-use Rattle.index.specs.Entries.{is_shorter, text_cases, short_case, build_answer, filled_arrays, build_exit, index_cases, check_answer, limits_refusal}
+use Rattle.index.specs.Entries.{is_shorter, blocks_outside, text_cases, short_case, build_answer, filled_arrays, build_exit, index_cases, check_answer, limits_refusal}
 use Rattle.index.specs.Exact.{WithinLimits, IsText}
-use Rattle.index.proofs.Limits.{blocks_outside, limits_tested, tested_limits}
+use Rattle.index.proofs.Limits.{limits_tested, tested_limits}
 
 -- ---- the number of the refusal of V, B and b
 
@@ -39,6 +43,13 @@ module _ (s : ℕ) (shape : Shape) where
   limits_none w =
       let l = limits_tested s shape w in
       ap (λ (a : Answer). a.refusal) (first_later _ _ _ _ l.0 ∙ first_later _ _ _ _ l.1 ∙ first_none (accepted 0))
+
+  -- where V is within its limits, that of B and b decides
+  pub limits_by_blocks : outside 1 (max_vocabulary s) shape.vocabulary ≡ false → (r : Result ⊤ Refusal)
+      → MatchResult r (λ _. blocks_outside shape.block shape.per_superblock ≡ false) (λ e. (e ≡ Blocks) × (blocks_outside shape.block shape.per_superblock ≡ true))
+      → number_of_test r ≡ limits_refusal s shape
+  limits_by_blocks v (Ok _) b = sym (limits_none (tested_limits s shape v b))
+  limits_by_blocks v (Err e) b = ap number_of b.0 ∙ sym (limits_blocks v b.1)
 
   -- where there is none, V, B and b are within their limits
   pub limits_zero : limits_refusal s shape ≡ 0 → WithinLimits s shape

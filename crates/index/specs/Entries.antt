@@ -1,9 +1,9 @@
 -- The answers of the calls that build and check an index, and what building leaves in the lent slices.
-use Rattle.std.specs.Prelude.{ℕ, Bool, not, ◌||◌, List, [], ◌∷◌, ◌++◌, ltb, length}
+use Rattle.std.specs.Prelude.{ℕ, ◌*◌, Bool, not, ◌||◌, List, [], ◌∷◌, ◌++◌, eqb, ltb, length}
 use Rattle.base.specs.declared.Answer.{Answer}
 use Rattle.base.specs.Refusals.{refusal_short_slice, refusal_index}
 use Rattle.base.specs.Answers.{accepted, refused, Case, ◌⇒◌, first_of, filled}
-use Rattle.base.specs.Texts.{words_case, rank_case}
+use Rattle.base.specs.Texts.{max_superblock, words_case, rank_case}
 use Rattle.dense.specs.Code.{vocabulary_case}
 use Rattle.directory.specs.Counters.{blocks_case}
 use Rattle.index.specs.declared.Shape.{Shape}
@@ -57,6 +57,10 @@ index_cases s shape a =
 -- checking an index
 unfoldable pub check_answer : ℕ → Shape → Arrays → Answer
 check_answer s shape a = first_of (index_cases s shape a) (accepted 0)
+
+-- whether B or b is 0, or S above 65,535
+abbrev pub blocks_outside : ℕ → ℕ → Bool
+blocks_outside block per = eqb block 0 || eqb per 0 || ltb max_superblock (block * per)
 
 -- the number of the refusal of V, B and b: 1 or 3, and 0 where they are within their limits
 unfoldable pub limits_refusal : ℕ → Shape → ℕ

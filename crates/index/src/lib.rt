@@ -3,10 +3,11 @@
 // `building` and `checking` have the calls.
 #![tactic(auto)]
 
-ghost use Rattle.std.specs.Prelude.{◌≡◌};
+ghost use Rattle.std.specs.Prelude.{◌≡◌, true, false, MatchResult};
 ghost use Rattle.base.specs.Outcomes.{number_of_test};
-ghost use Rattle.dense.specs.Code.{Closing};
-ghost use Rattle.index.specs.Entries.{limits_refusal};
+ghost use Rattle.base.specs.Texts.{outside};
+ghost use Rattle.dense.specs.Code.{Closing, max_vocabulary};
+ghost use Rattle.index.specs.Entries.{blocks_outside, limits_refusal};
 
 use base::refusal::Refusal;
 
@@ -31,10 +32,12 @@ pub struct LentIndex<'a> {
     pub blocks: &'a [u16],
 }
 
-// Tests V, B and b: the first of them that is outside its limits is refused.
-pub fn check_limits(s: usize, shape: Shape) -> Result<(), Refusal>
+// Tests V.
+pub fn check_vocabulary(s: usize, shape: Shape) -> Result<(), Refusal>
     requires { Closing s }
-    ensures { number_of_test result ≡ limits_refusal s shape }
+    ensures { MatchResult result
+        (λ _. outside 1 (max_vocabulary s) shape.vocabulary ≡ false)
+        (λ refusal. (refusal ≡ Refusal.Vocabulary) × (outside 1 (max_vocabulary s) shape.vocabulary ≡ true)) }
 {
     if shape.vocabulary < 1 {
         return Err(Refusal::Vocabulary);
@@ -42,6 +45,15 @@ pub fn check_limits(s: usize, shape: Shape) -> Result<(), Refusal>
     if dense::max_vocabulary(s) < shape.vocabulary {
         return Err(Refusal::Vocabulary);
     }
+    Ok(())
+}
+
+// Tests B and b.
+pub fn check_blocks(shape: Shape) -> Result<(), Refusal>
+    ensures { MatchResult result
+        (λ _. blocks_outside shape.block shape.per_superblock ≡ false)
+        (λ refusal. (refusal ≡ Refusal.Blocks) × (blocks_outside shape.block shape.per_superblock ≡ true)) }
+{
     if shape.block < 1 {
         return Err(Refusal::Blocks);
     }
@@ -52,4 +64,13 @@ pub fn check_limits(s: usize, shape: Shape) -> Result<(), Refusal>
         return Err(Refusal::Blocks);
     }
     Ok(())
+}
+
+// Tests V, B and b: the first of them that is outside its limits is refused.
+pub fn check_limits(s: usize, shape: Shape) -> Result<(), Refusal>
+    requires { Closing s }
+    ensures { number_of_test result ≡ limits_refusal s shape }
+{
+    check_vocabulary(s, shape)?;
+    check_blocks(shape)
 }

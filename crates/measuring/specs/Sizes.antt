@@ -1,8 +1,10 @@
 -- The sizes of the index of a text, which are known before any memory is lent: measuring a text, and building with sizes that were measured.
-use Rattle.std.specs.Prelude.{ℕ, suc, ◌*◌, ◌/◌, ◌≤◌, ◌≡◌, ◌↔◌, Bool, true, false, cond, not, ◌&&◌, List, [], ◌∷◌, ◌++◌, eqb, length}
+use Rattle.std.specs.Prelude.{ℕ, suc, ◌*◌, ◌/◌, ◌≤◌, ◌≡◌, ◌↔◌, Bool, true, false, cond, not, ◌&&◌, List, [], ◌∷◌, ◌++◌, eqb, length, Result, Ok, Err}
 use Rattle.base.specs.declared.Answer.{Answer}
 use Rattle.base.specs.Refusals.{refusal_short_slice, refusal_sizes}
-use Rattle.base.specs.Answers.{accepted, refused, is_accepted, Case, ◌⇒◌, first_of}
+use Rattle.base.specs.declared.refusal.Refused.{Refused}
+use Rattle.base.specs.Outcomes.{number_of}
+use Rattle.base.specs.Answers.{accepted, refused, refused_at, is_accepted, Case, ◌⇒◌, first_of}
 use Rattle.dense.specs.Code.{Closing}
 use Rattle.dense.specs.Streams.{stream}
 use Rattle.tree.specs.Nodes.{node_count}
@@ -52,6 +54,11 @@ measured_of s shape t =
       answer = measure_answer s shape t;
       sizes = cond (is_accepted (measure_answer s shape t)) (sizes_of s shape t) no_sizes;
     }
+
+-- what is returned of a call that measures: the sizes beside 0, four zeros beside a refusal
+abbrev pub measured : Result IndexSizes Refused → Measured
+measured (Ok sizes) = record { answer = accepted 0; sizes = sizes }
+measured (Err e) = record { answer = refused_at (number_of e.refusal) e.at; sizes = no_sizes }
 
 -- building the index of t with sizes that are handed back, in slices that hold z: refusals 1, 2, 3, 4, 16 and 5
 unfoldable pub build_sized_answer : ℕ → Shape → IndexSizes → List ℕ → Arrays → Answer

@@ -5,21 +5,23 @@
 #![tactic(auto)]
 
 ghost use Rattle.std.specs.Prelude.{◌≡◌, suc, ◌*◌, ◌/◌, ◌≤◌, length};
+ghost use Rattle.base.specs.Outcomes.{test_answer};
 ghost use Rattle.base.specs.Texts.{max_words};
 ghost use Rattle.dense.specs.Code.{Closing};
 ghost use Rattle.directory.specs.Counters.{max_bytes};
 ghost use Rattle.tree.specs.Nodes.{node_count};
 ghost use Rattle.index.specs.Exact.{WithinLimits};
-ghost use Rattle.measuring.specs.Sizes.{sizes, no_sizes, same_sizes, measured_of};
+ghost use Rattle.measuring.specs.Sizes.{sizes, same_sizes, measured, measured_of};
 ghost use Rattle.measuring.specs.Passes.{LimitsAnswer, PassOf};
 
-use base::{Answer, refusal};
+use base::Answer;
+use base::refusal::{Refusal, Refused};
 use index::Shape;
 
 // The sizes of an index: N, the number of its nodes; L, the number of its bytes; and how many
 // superblock rows and block rows it has, of 256 counters each.
 #[repr(C)]
-#[derive(Clone, Copy)]
+#[derive(Clone, Copy, PartialEq, Eq, Default)]
 pub struct IndexSizes {
     pub nodes: usize,
     pub bytes: usize,
@@ -35,78 +37,70 @@ pub struct Measured {
     pub sizes: IndexSizes,
 }
 
+impl From<Result<IndexSizes, Refused>> for Measured {
+    ghost from_gives = { λ outcome m. m ≡ measured outcome };
+
+    fn from(outcome: Result<IndexSizes, Refused>) -> Measured {
+        match outcome {
+            Ok(sizes) => Measured {
+                answer: Answer::accepted(0),
+                sizes,
+            },
+            Err(refused) => Measured {
+                answer: Answer {
+                    refusal: refused.refusal.number(),
+                    value: refused.at,
+                },
+                sizes: IndexSizes::default(),
+            },
+        }
+    }
+}
+
 // Whether two times four sizes are the same.
+#[tactic(auto, unfolding(crate::specs::Sizes::same_sizes))]
 pub fn same_sizes(given: IndexSizes, own: IndexSizes) -> bool
     ensures { result ≡ same_sizes given own }
 {
-    (given.nodes == own.nodes)
-        & (given.bytes == own.bytes)
-        & (given.superblock_rows == own.superblock_rows)
-        & (given.block_rows == own.block_rows)
-}
-
-// What one pass over the ranks of a text gives: the first place whose rank is not below the
-// vocabulary's size, or the number of words, and then the number of bytes of the stream.
-#[derive(Clone, Copy)]
-struct RankPass {
-    place: usize,
-    bytes: usize,
+    given == own
 }
 
 // How many words are read for one test and then for the other, while they are in the cache.
 const PART: usize = 2048;
 
-// Passes over the ranks of a text once, part by part.
-fn pass_ranks(s: usize, vocabulary: usize, text: &[u32]) -> RankPass
+// Passes over the ranks of a text once, part by part: the number of bytes of its stream, where no rank
+// is outside the vocabulary.
+fn pass_ranks(s: usize, vocabulary: usize, text: &[u32]) -> Result<usize, Refused>
     requires { Closing s × (length text.now ≤ max_words) }
     ensures { PassOf s vocabulary text.now result }
 {
     let mut bytes = 0;
     let mut at = 0;
-    while at < text.len() {
-        let stop = base::least(at + PART, text.len());
-        let place = base::first_outside(&text[at..stop], vocabulary);
-        if place < stop - at {
-            return RankPass {
-                place: at + place,
-                bytes,
-            };
+    for part in text.chunks(PART) {
+        let place = base::first_outside(part, vocabulary);
+        if place < part.len() {
+            return Err(Refused {
+                refusal: Refusal::TextRank,
+                at: at + place,
+            });
         }
-        bytes += dense::stream_length(s, &text[at..stop]);
-        at = stop;
+        bytes += dense::stream_length(s, part);
+        at += part.len();
     }
-    RankPass { place: at, bytes }
+    Ok(bytes)
 }
 
-// The refusal of V, of the number of words, or of B and b, in this order; 0 where there is none.
-fn limits_answer(s: usize, shape: Shape, text: &[u32]) -> Answer
+// Tests V, the number of words, and B and b, in this order.
+fn check_limits(s: usize, shape: Shape, text: &[u32]) -> Result<(), Refused>
     requires { Closing s }
-    ensures { LimitsAnswer s shape text.now result }
+    ensures { LimitsAnswer s shape text.now (test_answer result) }
 {
-    let outside = index::limits_refusal(s, shape);
-    if outside == refusal::VOCABULARY {
-        return Answer::refused(refusal::VOCABULARY);
-    }
+    index::check_vocabulary(s, shape)?;
     if base::MAX_WORDS < text.len() {
-        return Answer::refused(refusal::WORDS);
+        return Err(Refusal::Words.into());
     }
-    if outside != 0 {
-        return Answer::refused(refusal::BLOCKS);
-    }
-    Answer::accepted(0)
-}
-
-// What a refused call returns: four zeros beside its answer.
-fn without_sizes(answer: Answer) -> Measured
-    ensures { (result.answer ≡ answer) × (result.sizes ≡ no_sizes) }
-{
-    let sizes = IndexSizes {
-        nodes: 0,
-        bytes: 0,
-        superblock_rows: 0,
-        block_rows: 0,
-    };
-    Measured { answer, sizes }
+    index::check_blocks(shape)?;
+    Ok(())
 }
 
 // The sizes of an index of so many bytes.
@@ -125,21 +119,14 @@ fn sizes_for(s: usize, shape: Shape, bytes: usize) -> IndexSizes
     }
 }
 
-// Measures a text with s closing values: all that is returned is as paper 02 says.
-pub fn measure_of(s: usize, shape: Shape, text: &[u32]) -> Measured
+// Measures a text with s closing values: what it gives is as paper 02 says.
+pub fn measure_of(s: usize, shape: Shape, text: &[u32]) -> Result<IndexSizes, Refused>
     requires { Closing s }
-    ensures { result ≡ measured_of s shape text.now }
+    ensures { measured result ≡ measured_of s shape text.now }
 {
-    let answer = limits_answer(s, shape, text);
-    if answer.refusal != 0 {
-        return without_sizes(answer);
-    }
-    let pass = pass_ranks(s, shape.vocabulary, text);
-    if pass.place < text.len() {
-        return without_sizes(Answer::refused_at(refusal::TEXT_RANK, pass.place));
-    }
-    let sizes = sizes_for(s, shape, pass.bytes);
-    Measured { answer, sizes }
+    check_limits(s, shape, text)?;
+    let bytes = pass_ranks(s, shape.vocabulary, text)?;
+    Ok(sizes_for(s, shape, bytes))
 }
 
 // Measures a text of the published code: the sizes of its index beside the answer 0. Refusals 1, 2,
@@ -148,5 +135,5 @@ pub fn measure_of(s: usize, shape: Shape, text: &[u32]) -> Measured
 pub fn measure(shape: Shape, text: &[u32]) -> Measured
     ensures { result ≡ measured_of 128 shape text.now }
 {
-    measure_of(dense::CLOSING, shape, text)
+    measure_of(dense::CLOSING, shape, text).into()
 }
