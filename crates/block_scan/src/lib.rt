@@ -112,7 +112,7 @@ impl Sought<'_> {
     }
 
     // Reads on to the next occurrence of the byte, which is not past the one sought, or to the end of the
-    // block.
+    // block; `read_byte` counts, and the loop does not.
     fn read_on(&self, from: usize) -> ControlFlow<usize, usize>
         requires { (from ≤ length self.now.block.now) × (count_of self.now.byte (take from self.now.block.now) ≤ self.now.j) }
         ensures { Looked self.now.byte from self.now.block.now result × ForContinue result (λ read. read ≡ length self.now.block.now) }

@@ -13,26 +13,19 @@ fn same_superblock(superblocks: &[u32], row: usize, totals: &[u32; 256]) -> bool
     ensures { result ≡ same (take 256 (drop (row * 256) superblocks.now)) totals.now }
 {
     let at = row * 256;
-    let mut equal = true;
-    let mut x = 0;
-    while x < 256 {
-        equal = equal & (superblocks[at + x] == totals[x]);
-        x += 1;
-    }
-    equal
+    &superblocks[at..at + 256] == totals.as_slice()
 }
 
-// Whether a block row is 256 counters.
+// Whether a block row is 256 counters. No turn leaves the loop, so that many numbers are compared at
+// once.
 fn same_block(blocks: &[u16], row: usize, lanes: &[u16; 512]) -> bool
     requires { ((row + 1) * 256 ≤ length blocks.now) × Below 65536 (counters lanes.now) }
     ensures { result ≡ same (take 256 (drop (row * 256) blocks.now)) (counters lanes.now) }
 {
     let at = row * 256;
     let mut equal = true;
-    let mut x = 0;
-    while x < 256 {
-        equal = equal & (blocks[at + x] == lanes[x] + lanes[256 + x]);
-        x += 1;
+    for x in 0..256usize {
+        equal &= blocks[at + x] == lanes[x] + lanes[256 + x];
     }
     equal
 }
@@ -51,14 +44,13 @@ fn verify_superblock(
     ensures { Passed block per bytes.now blocks.now totals.new superblock result }
 {
     let mut lanes = [0u16; 512];
-    let mut row = superblock * per;
+    let first = superblock * per;
     let end = tallies::rows_end(bytes.len(), block, per, superblock);
-    while row < end {
+    for row in first..end {
         if !same_block(blocks, row, &lanes) {
             return false;
         }
         tallies::tally_block(bytes, block, row, &mut lanes);
-        row += 1;
     }
     tallies::add(totals, &lanes);
     true
@@ -77,15 +69,13 @@ pub fn verify(bytes: &[u8], superblocks: &[u32], blocks: &[u16], block: usize, p
         return false;
     }
     let mut totals = [0u32; 256];
-    let mut superblock = 0;
-    while superblock < end {
+    for superblock in 0..end {
         if !same_superblock(superblocks, superblock, &totals) {
             return false;
         }
         if !verify_superblock(bytes, blocks, &mut totals, block, per, superblock) {
             return false;
         }
-        superblock += 1;
     }
     true
 }

@@ -16,11 +16,7 @@ fn put_superblock(superblocks: &mut [u32], row: usize, totals: &[u32; 256])
     ensures { superblocks.new ≡ paste superblocks.old (row * 256) totals.now 256 }
 {
     let at = row * 256;
-    let mut x = 0;
-    while x < 256 {
-        superblocks[at + x] = totals[x];
-        x += 1;
-    }
+    superblocks[at..at + 256].copy_from_slice(totals);
 }
 
 // Writes 256 counters as a block row; the rest stays.
@@ -29,10 +25,8 @@ fn put_block(blocks: &mut [u16], row: usize, lanes: &[u16; 512])
     ensures { blocks.new ≡ paste blocks.old (row * 256) (counters lanes.now) 256 }
 {
     let at = row * 256;
-    let mut x = 0;
-    while x < 256 {
+    for x in 0..256usize {
         blocks[at + x] = lanes[x] + lanes[256 + x];
-        x += 1;
     }
 }
 
@@ -51,12 +45,11 @@ fn fill_superblock(
         × (totals.new ≡ superblock_row block per bytes.now (superblock + 1)) }
 {
     let mut lanes = [0u16; 512];
-    let mut row = superblock * per;
+    let first = superblock * per;
     let end = tallies::rows_end(bytes.len(), block, per, superblock);
-    while row < end {
+    for row in first..end {
         put_block(blocks, row, &lanes);
         tallies::tally_block(bytes, block, row, &mut lanes);
-        row += 1;
     }
     tallies::add(totals, &lanes);
 }
@@ -69,10 +62,8 @@ pub fn fill(bytes: &[u8], superblocks: &mut [u32], blocks: &mut [u16], block: us
 {
     let mut totals = [0u32; 256];
     let end = tallies::row_count(bytes.len(), block * per);
-    let mut superblock = 0;
-    while superblock < end {
+    for superblock in 0..end {
         put_superblock(superblocks, superblock, &totals);
         fill_superblock(bytes, blocks, &mut totals, block, per, superblock);
-        superblock += 1;
     }
 }

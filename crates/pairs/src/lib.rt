@@ -17,19 +17,14 @@ fn first_few(here: &[u8], there: &[u8], x: u8, y: u8) -> u8
     let count = here.len() as u8;
     let mut most: u8 = 0;
     let mut left = count;
-    let mut i = 0;
-    while i < here.len() {
-        let one = here[i] == x;
-        let other = there[i] == y;
-        let mut at: u8 = 0;
-        if one & other {
-            at = left;
-        }
+    for (h, t) in here.iter().zip(there) {
+        let one = *h == x;
+        let other = *t == y;
+        let at = if one & other { left } else { 0 };
         if most < at {
             most = at;
         }
         left -= 1;
-        i += 1;
     }
     count - most
 }
@@ -43,13 +38,13 @@ pub fn next_pair(here: &[u8], there: &[u8], x: u8, y: u8) -> usize
     let mut i = 0;
     while 128 <= here.len() - i {
         let stop = i + 128;
-        let at = i + first_few(&here[i..stop], &there[i..stop], x, y) as usize;
+        let at = i + usize::from(first_few(&here[i..stop], &there[i..stop], x, y));
         if at < stop {
             return at;
         }
         i = stop;
     }
-    i + first_few(&here[i..], &there[i..], x, y) as usize
+    i + usize::from(first_few(&here[i..], &there[i..], x, y))
 }
 
 // The position of the first occurrence of a byte in a part, the part's length where there is none.

@@ -2,7 +2,8 @@
 use Prim.Native.Nat.{ℕ, ◌+◌, ◌*◌, ◌≤◌, ◌<◌}
 use mathlib.Core.Path.{◌≡◌, refl, sym, ap, ◌∙◌}
 use mathlib.Core.Bool.{Bool, true, false, ◌&&◌}
-use mathlib.Core.List.{List, ◌++◌, flatten}
+use mathlib.Core.List.{List, [], ◌∷◌, ◌++◌, flatten}
+use Rattle.std.specs.Cmp.Lexicographic.{pointwise}
 use native.Mathlib.Numerals.{add-one}
 use native.Mathlib.Omega.{arith}
 use lib.Dec.{eqb}
@@ -15,6 +16,15 @@ use Rattle.directory.specs.Tables.{first_rows}
 use Rattle.directory.proofs.FirstRows.{first_rows_suc, first_rows_length, first_rows_row}
 use Rattle.tallies.specs.Tallies.{BeginsWithRows}
 use Rattle.base.proofs.Fronts.{length_front, take_front, front_of_take, front_over, front_paste, paste_next}
+
+-- ---- the equality of two slices
+
+-- element by element
+pub same_pointwise : (xs ys : List ℕ) → pointwise eqb xs ys ≡ same xs ys
+same_pointwise [] [] = refl
+same_pointwise [] (y ∷ ys) = refl
+same_pointwise (x ∷ xs) [] = refl
+same_pointwise (x ∷ xs) (y ∷ ys) = ap (λ (b : Bool). eqb x y && b) (same_pointwise xs ys)
 
 -- ---- one row written
 

@@ -14,12 +14,9 @@ fn tally(part: &[u8], lanes: &mut [u16; 512])
     requires { (length lanes.old ≡ 512) × Below 65536 (sums (counters lanes.old) (row_of part.now)) }
     ensures { (length lanes.new ≡ 512) × (counters lanes.new ≡ sums (counters lanes.old) (row_of part.now)) }
 {
-    let mut i = 0;
-    while i < part.len() {
-        let x = part[i] as usize;
-        let at = i % 2 * 256 + x;
+    for (i, byte) in part.iter().enumerate() {
+        let at = i % 2 * 256 + usize::from(*byte);
         lanes[at] += 1;
-        i += 1;
     }
 }
 
@@ -28,10 +25,8 @@ pub fn add(totals: &mut [u32; 256], lanes: &[u16; 512])
     requires { (length totals.old ≡ 256) × Below 65536 (counters lanes.now) × Below 4294967296 (sums totals.old (counters lanes.now)) }
     ensures { totals.new ≡ sums totals.old (counters lanes.now) }
 {
-    let mut x = 0;
-    while x < 256 {
-        totals[x] += (lanes[x] + lanes[256 + x]) as u32;
-        x += 1;
+    for (x, total) in totals.iter_mut().enumerate() {
+        *total += u32::from(lanes[x] + lanes[256 + x]);
     }
 }
 
@@ -42,7 +37,7 @@ pub fn tally_block(bytes: &[u8], block: usize, row: usize, lanes: &mut [u16; 512
     ensures { (length lanes.new ≡ 512) × (counters lanes.new ≡ sums (counters lanes.old) (row_of (block_bytes block bytes.now row))) }
 {
     let from = row * block;
-    let to = base::least(from + block, bytes.len());
+    let to = (from + block).min(bytes.len());
     tally(&bytes[from..to], lanes);
 }
 
@@ -59,5 +54,5 @@ pub fn rows_end(size: usize, block: usize, per: usize, superblock: usize) -> usi
     requires { (1 ≤ block) × (size ≤ max_bytes) × (superblock * per + per ≤ max_bytes + max_superblock) }
     ensures { result ≡ rows_end block per size superblock }
 {
-    base::least(superblock * per + per, row_count(size, block))
+    (superblock * per + per).min(row_count(size, block))
 }
