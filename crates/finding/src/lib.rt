@@ -2,80 +2,80 @@
 // the rules.
 #![tactic(auto)]
 
-ghost use Rattle.std.specs.Prelude.{◌≡◌, true, false, length};
+ghost use Rattle.std.specs.Prelude.{◌≡◌, true, false};
+ghost use Rattle.base.specs.Outcomes.{answer_of};
 ghost use Rattle.base.specs.Texts.{outside};
 ghost use Rattle.dense.specs.Code.{max_vocabulary};
-ghost use Rattle.lexicon.specs.Letters.{letters as lettersOf, is_table};
-ghost use Rattle.lexicon.specs.Lexicon.{list_size, list_rank, is_written};
-ghost use Rattle.lexicon.specs.Reading.{spellings};
-ghost use Rattle.scanning.specs.Scans.{run_at};
 ghost use Rattle.finding.specs.Finding.{word_rank, find_word_answer};
+ghost use Rattle.hashing.specs.Parts.{words_of};
+ghost use Rattle.lexicon.specs.Letters.{letters as lettersOf};
+ghost use Rattle.lexicon.specs.Lexicon.{list_size, list_rank, is_written};
+ghost use Rattle.scanning.specs.Scans.{run_at};
 
-use base::{Answer, refusal};
+use base::Answer;
+use base::refusal::{Refusal, Refused};
+use hashing::{Slots, WordList};
+use scanning::Letters;
 
 // The number of words of a list before the first that is spelled as the word in front of a spelling;
-// all of them where none is.
-fn first_alike(table: &[u8], list: &[u8], words: usize, spelling: &[u8]) -> usize
-    requires { (is_table table.now ≡ true) × (words ≡ length (spellings table.now list.now)) }
-    ensures { result ≡ list_rank (spellings table.now list.now) (run_at table.now spelling.now 0) }
+// all of them where none is: what the call answers for a word that the list lacks is the number of its
+// words, and no Option.
+fn first_alike(list: &WordList, spelling: &[u8]) -> usize
+    ensures { result ≡ list_rank (words_of list.now) (run_at list.now.letters.table.now spelling.now 0) }
 {
-    let mut at = scanning::word_start(table, list, 0);
-    let mut rank: usize = 0;
-    while rank < words {
-        if scanning::same_word(table, spelling, 0, list, at) {
+    let letters = &list.letters;
+    let mut at = letters.word_start(list.bytes, 0);
+    for rank in 0..list.size {
+        if letters.same_word(spelling, 0, list.bytes, at) {
             return rank;
         }
-        let scan = scanning::scan_word(table, list, at);
-        let end = scan.end;
-        at = scanning::word_start(table, list, end);
-        rank += 1;
+        let scan = letters.scan_word(list.bytes, at);
+        at = letters.word_start(list.bytes, scan.end);
     }
-    rank
+    list.size
 }
 
-// The rank of a spelled word in a list of so many words, which are written as they must be; their
-// number where the list lacks it. A spelling with a separator is in no list.
-fn rank_of(table: &[u8], list: &[u8], words: usize, spelling: &[u8]) -> usize
-    requires { (is_table table.now ≡ true) × (is_written table.now list.now ≡ true) × (words ≡ list_size list.now) }
-    ensures { result ≡ word_rank table.now list.now spelling.now }
+// The rank of a spelled word in a list whose words are written as they must be; their number where the
+// list lacks it. A spelling with a separator is in no list.
+fn rank_of(list: &WordList, spelling: &[u8]) -> usize
+    requires { is_written list.now.letters.table.now list.now.bytes.now ≡ true }
+    ensures { result ≡ word_rank list.now.letters.table.now list.now.bytes.now spelling.now }
 {
-    let scan = scanning::scan_word(table, spelling, 0);
+    let scan = list.letters.scan_word(spelling, 0);
     if scan.end < spelling.len() {
-        return words;
+        return list.size;
     }
-    first_alike(table, list, words, spelling)
+    first_alike(list, spelling)
 }
 
-// Finds a spelled word in a list of so many words, which are written as they must be.
-fn find_by_written(table: &[u8], list: &[u8], words: usize, spelling: &[u8]) -> Answer
-    requires { (is_table table.now ≡ true) × (is_written table.now list.now ≡ true) × (words ≡ list_size list.now) × (outside 1 (max_vocabulary 128) words ≡ false) }
-    ensures { result ≡ find_word_answer table.now list.now spelling.now }
+// Finds a spelled word in a list whose words are written as they must be.
+fn find_by_written(list: &WordList, spelling: &[u8]) -> Result<usize, Refused>
+    requires { (is_written list.now.letters.table.now list.now.bytes.now ≡ true) × (outside 1 (max_vocabulary 128) (list_size list.now.bytes.now) ≡ false) }
+    ensures { answer_of result ≡ find_word_answer list.now.letters.table.now list.now.bytes.now spelling.now }
 {
-    let mut heads = [0u32; 65536];
-    let mut links = [0u32; hashing::MAX_PART];
-    let mut starts = [0usize; hashing::MAX_PART];
-    if !list_rules::is_distinct(table, list, words, &mut heads, &mut links, &mut starts) {
-        return Answer::refused(refusal::WORD_LIST);
+    if !list_rules::is_distinct(list, &mut Slots::new()) {
+        return Err(Refusal::WordList.into());
     }
-    Answer::accepted(rank_of(table, list, words, spelling))
+    Ok(rank_of(list, spelling))
 }
 
 // Finds a spelled word in a word list with a table that keeps the rules.
-pub fn find_word_by(table: &[u8], list: &[u8], spelling: &[u8]) -> Answer
-    requires { is_table table.now ≡ true }
-    ensures { result ≡ find_word_answer table.now list.now spelling.now }
+pub fn find_word_by(letters: &Letters, list: &[u8], spelling: &[u8]) -> Result<usize, Refused>
+    ensures { answer_of result ≡ find_word_answer letters.now.table.now list.now spelling.now }
 {
     let words = list_rules::list_size(list);
-    if words < 1 {
-        return Answer::refused(refusal::VOCABULARY);
+    if words < 1 || base::MAX_VOCABULARY < words {
+        return Err(Refusal::Vocabulary.into());
     }
-    if base::MAX_VOCABULARY < words {
-        return Answer::refused(refusal::VOCABULARY);
+    if !list_rules::is_written(letters, list) {
+        return Err(Refusal::WordList.into());
     }
-    if !list_rules::is_written(table, list) {
-        return Answer::refused(refusal::WORD_LIST);
-    }
-    find_by_written(table, list, words, spelling)
+    let written = WordList {
+        letters: *letters,
+        bytes: list,
+        size: words,
+    };
+    find_by_written(&written, spelling)
 }
 
 // Finds a spelled word, folded by the letter table, in a word list: it answers its rank, and the number
@@ -84,5 +84,5 @@ pub fn find_word_by(table: &[u8], list: &[u8], spelling: &[u8]) -> Answer
 pub fn find_word(list: &[u8], spelling: &[u8]) -> Answer
     ensures { result ≡ find_word_answer lettersOf list.now spelling.now }
 {
-    find_word_by(&lexicon::LETTERS, list, spelling)
+    find_word_by(&Letters::built_in(), list, spelling).into()
 }

@@ -1,5 +1,5 @@
 -- What is found where the words of a text are looked up in a word list, part by part.
-use Rattle.std.specs.Prelude.{ℕ, cond, List, [], ◌∷◌, ltb, length}
+use Rattle.std.specs.Prelude.{ℕ, cond, Option, Some, None, List, [], ◌∷◌, ltb, length}
 use Rattle.base.specs.Lists.{filter_by}
 use Rattle.hashing.specs.HashTables.{index_in}
 use Rattle.hashing.specs.declared.part.Part.{Part}
@@ -22,3 +22,8 @@ count_listed words ws = length (filter_by (λ w. is_in words w.spelling) ws)
 abbrev pub first_missing : List (List ℕ) → ℕ → List TextWord → ℕ
 first_missing words end [] = end
 first_missing words end (w ∷ ws) = cond (is_in words w.spelling) (first_missing words end ws) w.offset
+
+-- the offset that is found; the given end where none is
+abbrev pub offset_or : ℕ → Option ℕ → ℕ
+offset_or end None = end
+offset_or end (Some at) = at

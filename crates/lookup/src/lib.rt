@@ -2,11 +2,11 @@
 // not.
 #![tactic(auto)]
 
-ghost use Rattle.std.specs.Prelude.{◌≡◌, true, ◌≤◌, length, take};
+ghost use Rattle.std.specs.Prelude.{◌≡◌, true, IsSome, ◌≤◌, ◌<◌, length, take};
 ghost use Rattle.hashing.specs.Parts.{words_of};
 ghost use Rattle.lexicon.specs.Lexicon.{distinct};
 ghost use Rattle.lexicon.specs.Reading.{text_words};
-ghost use Rattle.lookup.specs.Lookups.{count_in_part, count_listed, first_missing};
+ghost use Rattle.lookup.specs.Lookups.{count_in_part, count_listed, first_missing, offset_or};
 ghost use Rattle.scanning.specs.Scans.{words_at, WordBegins};
 
 use hashing::{MAX_PART, Part, Slots, WordList};
@@ -61,15 +61,15 @@ pub fn count_listed(
     found
 }
 
-// The offset of the first word of a text of so many words that is not in a list; the text's length
-// where all are. A range that has such a word is halved until it is that word.
-pub fn first_unlisted(list: &WordList, slots: &mut Slots, text: &[u8], size: usize) -> usize
+// The offset of the first word of a text of so many words that is not in a list. A range that has such a
+// word is halved until it is that word.
+pub fn first_unlisted(list: &WordList, slots: &mut Slots, text: &[u8], size: usize) -> Option<usize>
     requires { (distinct (words_of list.now) ≡ true) × (size ≡ length (text_words list.now.letters.table.now text.now)) }
-    ensures { result ≡ first_missing (words_of list.now) (length text.now) (text_words list.now.letters.table.now text.now) }
+    ensures { let missing = first_missing (words_of list.now) (length text.now) (text_words list.now.letters.table.now text.now) in (offset_or (length text.now) result ≡ missing) × (IsSome result → missing < length text.now) }
 {
     let mut at = list.letters.word_start(text, 0);
     if count_listed(list, slots, text, at, size) == size {
-        return text.len();
+        return None;
     }
     let mut left = size;
     while 1 < left {
@@ -81,5 +81,5 @@ pub fn first_unlisted(list: &WordList, slots: &mut Slots, text: &[u8], size: usi
             left = half;
         }
     }
-    at
+    Some(at)
 }

@@ -24,9 +24,10 @@ returns-then-count_listed-size c =
     let size = c.args.size in
     let ws = text_words table text in
     let whole = ap (words_at table text) c.word_start-at.ensures ∙ sym (words_first table text) in
-    sym (missing_behind words (length text) size ws (omega (arith, c.requires.1))
+    let none = missing_behind words (length text) size ws (omega (arith, c.requires.1))
     (ap (λ (vs : List TextWord). count_listed words (take size vs)) (sym whole) ∙ sym c.count_listed.ensures ∙ c.if-count_listed-size.true)
-    ∙ ap (first_missing words (length text)) (drop_of_length-le ws {i = size} (omega (arith, c.requires.1))))
+    ∙ ap (first_missing words (length text)) (drop_of_length-le ws {i = size} (omega (arith, c.requires.1))) in
+    (sym none, λ h. cc)
 
 pub loop-left-init : goal.loop-left-init
 loop-left-init c =
@@ -64,5 +65,7 @@ returns c =
     let ws = words_at table text loop.at in
     let p : 0 < loop.left = some_missing words ws loop.left loop.invariant.3 in
     let o : loop.left ≡ 1 = omega (arith, c.loop-left-test.false) in
-    let n = next table text loop.at loop.invariant.0 (some_left table text loop.at (omega (arith, loop.invariant.1))) in
-    sym (missing_here words (length text) ws _ _ n.words (λ q. loop.invariant.3 (ap (λ (k : ℕ). count_listed words (take k ws)) o ∙ q ∙ sym o))) ∙ loop.invariant.2
+    let inside : loop.at < length text = some_left table text loop.at (omega (arith, loop.invariant.1)) in
+    let n = next table text loop.at loop.invariant.0 inside in
+    let e = sym (missing_here words (length text) ws _ _ n.words (λ q. loop.invariant.3 (ap (λ (k : ℕ). count_listed words (take k ws)) o ∙ q ∙ sym o))) ∙ loop.invariant.2 in
+    (e, λ _. omega (arith, e, inside))
