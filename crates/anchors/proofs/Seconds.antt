@@ -41,7 +41,7 @@ second_there : (t : List ℕ) (v : ℕ) (z : ℤ) → stands_at t v z ≡ true �
 unfolding stands_at
 second_there t v (pos r) e =
     (r, refl, ltb-true r (length t) (and_left (ltb r (length t)) (eqb (get_or t r 0) v) e), eqb-true (get_or t r 0) v (and_right (ltb r (length t)) (eqb (get_or t r 0) v) e))
-second_there t v (negsuc k) e = let z : ◌≡◌ {A = ℕ} 0 1 = cc in absurd (omega arith)
+second_there t v (negsuc k) e = cc
 
 module _ (t : List ℕ) (w v : ℕ) (d : ℤ) (q : ℕ) (e : neighbour_at t w v d q ≡ true) where
   neighbour_there : (r : ℕ) × (pos q +ℤ d ≡ pos r) × (r < length t) × (get_or t r 0 ≡ v)
@@ -57,7 +57,7 @@ back_is : (q k r : ℕ) → pos q +ℤ negsuc k ≡ pos r → (suc k ≤ q) × (
 back_is q k r e = by (ltb q (suc k)) refl e
   where
     by : (b : Bool) → ltb q (suc k) ≡ b → cond b (negsuc (suc k - suc q)) (pos (q - suc k)) ≡ pos r → (suc k ≤ q) × (r ≡ q - suc k)
-    by true h e = let z : ◌≡◌ {A = ℕ} 0 1 = cc in absurd (omega arith)
+    by true h e = cc
     by false h e = (omega (arith, ltb-false q (suc k) h), sym (number_is (q - suc k) r e))
 
 -- the first word is beside itself
@@ -154,11 +154,11 @@ moved_after (pos k) n p e = let z : 0 + k ≡ k = omega arith in by (ltb k n) (r
   where
     by : (b : Bool) → cond b (found_at k) None ≡ Some p → after_by p.0 ≡ cond b (after_by k) itself
     by true e = let s : k ≡ p.0 = cc in ap after_by (sym s)
-    by false e = let z : ◌≡◌ {A = ℕ} 0 1 = cc in absurd (omega arith)
+    by false e = cc
 moved_after (negsuc k) n p e = by (ltb 0 (suc k)) refl e
   where
     by : (b : Bool) → ltb 0 (suc k) ≡ b → place_within (cond b (negsuc (suc k - 1)) (pos (0 - suc k))) n ≡ Some p → after_by p.0 ≡ second_at (negsuc k) n
-    by true h e = let z : ◌≡◌ {A = ℕ} 0 1 = cc in absurd (omega arith)
+    by true h e = cc
     by false h e = absurd (omega (arith, ltb-false 0 (suc k) h))
 
 -- n is
@@ -168,7 +168,7 @@ moved_before (pos k) n p e = by (ltb (n + k) n) refl e
   where
     by : (b : Bool) → ltb (n + k) n ≡ b → cond b (found_at (n + k)) None ≡ Some p → before_by (n - p.0) ≡ cond (ltb k n) (after_by k) itself
     by true h e = absurd (omega (arith, ltb-true (n + k) n h))
-    by false h e = let z : ◌≡◌ {A = ℕ} 0 1 = cc in absurd (omega arith)
+    by false h e = cc
 moved_before (negsuc k) n p e = by (ltb n (suc k)) refl e
   where
     inside : suc k ≤ n → (b : Bool) → cond b (found_at (n - suc k)) None ≡ Some p → before_by (n - p.0) ≡ cond (leb (suc k) n) (before_by (suc k)) itself
@@ -176,10 +176,10 @@ moved_before (negsuc k) n p e = by (ltb n (suc k)) refl e
         let s : n - suc k ≡ p.0 = cc in
         let m : n - p.0 ≡ suc k = omega arith in
         rw (le-leb (suc k) n h) (ap before_by m)
-    inside h false e = let z : ◌≡◌ {A = ℕ} 0 1 = cc in absurd (omega arith)
+    inside h false e = cc
 
     by : (b : Bool) → ltb n (suc k) ≡ b → place_within (cond b (negsuc (suc k - suc n)) (pos (n - suc k))) n ≡ Some p → before_by (n - p.0) ≡ cond (leb (suc k) n) (before_by (suc k)) itself
-    by true h e = let z : ◌≡◌ {A = ℕ} 0 1 = cc in absurd (omega arith)
+    by true h e = cc
     by false h e = inside (ltb-false n (suc k) h) (ltb (n - suc k) n) e
 
 -- neither is
@@ -188,13 +188,13 @@ unfolding shifted_of
 moved_outside (pos k) n e f = let z : 0 + k ≡ k = omega arith in by (ltb k n) (rw z at e)
   where
     by : (b : Bool) → cond b (found_at k) None ≡ None → itself ≡ cond b (after_by k) itself
-    by true e = let z : ◌≡◌ {A = ℕ} 0 1 = cc in absurd (omega arith)
+    by true e = cc
     by false e = refl
 moved_outside (negsuc k) n e f = by (leb (suc k) n) refl
   where
     inside : suc k ≤ n → (b : Bool) → ltb n (suc k) ≡ b → (c : Bool) → ltb (n - suc k) n ≡ c → place_within (cond b (negsuc (suc k - suc n)) (pos (n - suc k))) n ≡ None → ⊥
     inside h true g c i f = omega (arith, ltb-true n (suc k) g)
-    inside h false g true i f = let o : cond true (found_at (n - suc k)) None ≡ None = rw i at f in let z : ◌≡◌ {A = ℕ} 0 1 = cc in omega arith
+    inside h false g true i f = let o : cond true (found_at (n - suc k)) None ≡ None = rw i at f in cc
     inside h false g false i f = omega (arith, ltb-false (n - suc k) n i)
 
     by : (b : Bool) → leb (suc k) n ≡ b → itself ≡ cond b (before_by (suc k)) itself
