@@ -6,8 +6,6 @@
 // query says of itself that it can be searched.
 #![tactic(auto)]
 
-pub mod lent;
-
 ghost use Rattle.std.specs.Prelude.{◌≡◌, ◌≤◌, ◌<◌, length};
 ghost use Rattle.base.specs.Texts.{max_words};
 ghost use Rattle.words.specs.Texts.{text_of, vocabulary_of};

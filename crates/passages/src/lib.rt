@@ -3,8 +3,6 @@
 // No function of this crate is an entry: an indexed text has passed the check.
 #![tactic(auto)]
 
-pub mod lent;
-
 ghost use Rattle.std.specs.Prelude.{◌≡◌, ◌+◌, ◌≤◌, length, take, drop};
 ghost use Rattle.words.specs.Texts.{text_of};
 

@@ -6,8 +6,6 @@
 // the callers have shown. What the functions answer is defined over the text.
 #![tactic(auto)]
 
-pub mod lent;
-
 ghost use Rattle.std.specs.Prelude.{◌≡◌, ◌+◌, ◌≤◌, ◌<◌, length, get_or, take};
 ghost use Rattle.base.specs.Lists.{count_of, nth};
 ghost use Rattle.words.specs.Words.{occurrences_below, frequency};
