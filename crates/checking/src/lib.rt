@@ -4,8 +4,8 @@
 // tested and are no entries.
 #![tactic(auto)]
 
-ghost use Rattle.std.specs.Prelude.{◌≡◌, ◌<◌, length};
-ghost use Rattle.base.specs.Lists.{total};
+ghost use Rattle.std.specs.Prelude.{◌≡◌, ◌<◌, eqb, length};
+ghost use Rattle.base.specs.Lists.{Below, total};
 ghost use Rattle.base.specs.Outcomes.{test_answer};
 ghost use Rattle.dense.specs.Code.{Closing};
 ghost use Rattle.starts.specs.Starts.{max_starts};
@@ -13,6 +13,7 @@ ghost use Rattle.index.specs.Arrays.{arrays, passes as arraysPass};
 ghost use Rattle.index.specs.Lent.{slices_of};
 ghost use Rattle.index.specs.Entries.{check_answer};
 ghost use Rattle.index.specs.Exact.{WithinLimits};
+ghost use Rattle.index.specs.Lent.{slices_of};
 
 use base::Answer;
 use base::refusal::{Refusal, Refused};
@@ -24,11 +25,17 @@ pub fn total_length(lengths: &[u32]) -> usize
     requires { length lengths.now < max_starts }
     ensures { result ≡ total lengths.now }
 {
-    let mut sum = 0;
-    for length in lengths {
-        sum += *length as usize;
-    }
-    sum
+    lengths.iter().map(|length| *length as usize).sum()
+}
+
+// Whether the node lengths add up to the number of bytes. The second clause is what the type of the
+// bytes says, which a proof does not see of a slice in a struct.
+fn add_up(lengths: &[u32], bytes: &[u8]) -> bool
+    requires { length lengths.now < max_starts }
+    ensures whole { result ≡ eqb (total lengths.now) (length bytes.now) }
+    ensures elements { Below 256 bytes.now }
+{
+    total_length(lengths) == bytes.len()
 }
 
 // Whether the four slices are the index of some text of the vocabulary.
@@ -36,17 +43,21 @@ pub fn passes(index: &LentIndex) -> bool
     requires { Closing index.now.s × WithinLimits index.now.s index.now.shape }
     ensures { result ≡ arraysPass index.now.s index.now.shape (slices_of index.now) }
 {
-    let lengths = index.lengths;
-    let bytes = index.bytes;
-    let shape = index.shape;
-    if lengths.len() != tree::node_count(index.s, shape.vocabulary) {
+    let LentIndex {
+        s,
+        shape,
+        lengths,
+        bytes,
+        superblocks,
+        blocks,
+    } = *index;
+    if lengths.len() != tree::node_count(s, shape.vocabulary) {
         return false;
     }
     if base::MAX_BYTES < bytes.len() {
         return false;
     }
-    let sum = total_length(lengths);
-    if sum != bytes.len() {
+    if !add_up(lengths, bytes) {
         return false;
     }
     if base::MAX_WORDS < lengths[0] as usize {
@@ -59,15 +70,15 @@ pub fn passes(index: &LentIndex) -> bool
     }
     let counted = CountedBytes {
         bytes,
-        superblocks: index.superblocks,
-        blocks: index.blocks,
+        superblocks,
+        blocks,
         block,
         per,
     };
     node_checks::nodes_pass(index, &counted)
 }
 
-// Checks an index: the answer is that of paper 01.
+// Checks an index with s closing values: the answer is that of paper 01.
 pub fn check_of(index: &LentIndex) -> Result<(), Refused>
     requires { Closing index.now.s }
     ensures { test_answer result ≡ check_answer index.now.s index.now.shape (slices_of index.now) }

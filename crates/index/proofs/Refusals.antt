@@ -10,7 +10,7 @@ use lib.ListN.{length}
 use Rattle.std.specs.Prelude.{⊤, Result, Ok, Err, MatchResult}
 use Rattle.base.specs.declared.Answer.{Answer}
 use Rattle.base.specs.declared.refusal.Refusal.{Refusal}
-use Rattle.base.specs.declared.refusal.Refusal.TheVariants.{Blocks}
+use Rattle.base.specs.declared.refusal.Refusal.TheVariants.{Vocabulary, Words, Blocks, TextRank, ShortSlice, Index, Kind, Phrase, AskedRank, Offset, Place, Page, WordList, Unlisted, Stream, Sizes, ListMaking, Table, Documents}
 use Rattle.base.specs.Outcomes.{number_of, number_of_test}
 use Rattle.base.specs.Lists.{first_where}
 use Rattle.base.specs.Refusals.{refusal_vocabulary, refusal_words, refusal_blocks, refusal_text_rank, refusal_short_slice, refusal_index}
@@ -28,6 +28,28 @@ use Rattle.index.specs.Exact.{WithinLimits, IsText}
 use Rattle.index.proofs.Limits.{limits_tested, tested_limits}
 
 -- ---- the number of the refusal of V, B and b
+
+-- each refusal has a number, which is not 0
+pub some_number : (x : Refusal) → number_of x ≡ 0 → ⊥
+some_number Vocabulary e = omega arith
+some_number Words e = omega arith
+some_number Blocks e = omega arith
+some_number TextRank e = omega arith
+some_number ShortSlice e = omega arith
+some_number Index e = omega arith
+some_number Kind e = omega arith
+some_number Phrase e = omega arith
+some_number AskedRank e = omega arith
+some_number Offset e = omega arith
+some_number Place e = omega arith
+some_number Page e = omega arith
+some_number WordList e = omega arith
+some_number Unlisted e = omega arith
+some_number Stream e = omega arith
+some_number Sizes e = omega arith
+some_number ListMaking e = omega arith
+some_number Table e = omega arith
+some_number Documents e = omega arith
 
 module _ (s : ℕ) (shape : Shape) where
   pub limits_vocabulary : outside 1 (max_vocabulary s) shape.vocabulary ≡ true → limits_refusal s shape ≡ refusal_vocabulary
@@ -93,6 +115,9 @@ module _ (s : ℕ) (shape : Shape) where
       go true v u b = first_here _ _ _ _ v ∙ ap refused (sym (limits_vocabulary v))
       go false v true b = first_later _ _ _ _ v ∙ first_here _ _ _ _ b ∙ ap refused (sym (limits_blocks v b))
       go false v false b = absurd (n (limits_none (tested_limits s shape v b)))
+
+  pub check_numbered : (a : Arrays) (x : Refusal) → number_of x ≡ limits_refusal s shape → refused (number_of x) ≡ check_answer s shape a
+  check_numbered a x e = ap refused e ∙ sym (check_refused a (λ z. some_number x (e ∙ z)))
 
   pub check_fails : (a : Arrays) → WithinLimits s shape → passes s shape a ≡ false → check_answer s shape a ≡ refused refusal_index
   unfolding check_answer index_cases vocabulary_case blocks_case

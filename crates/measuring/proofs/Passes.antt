@@ -8,8 +8,7 @@ use lib.Dec.{leb}
 use lib.ListN.{length, length-append}
 use Rattle.std.specs.Prelude.{Ok, Err}
 use Rattle.base.specs.declared.Answer.{Answer}
-use Rattle.base.specs.declared.refusal.Refusal.{Refusal}
-use Rattle.base.specs.declared.refusal.Refusal.TheVariants.{Vocabulary, Words, Blocks, TextRank, ShortSlice, Index, Kind, Phrase, AskedRank, Offset, Place, Page, WordList, Unlisted, Stream, Sizes, ListMaking, Table, Documents}
+use Rattle.base.specs.declared.refusal.Refusal.TheVariants.{TextRank}
 use Rattle.base.specs.declared.refusal.Refused.{Refused}
 use Rattle.base.specs.Lists.{first_where}
 use Rattle.base.specs.Refusals.{refusal_text_rank}
@@ -23,7 +22,7 @@ use Rattle.dense.specs.Streams.{stream}
 use Rattle.dense.proofs.Streams.{stream_append, stream_none}
 use Rattle.index.specs.declared.Shape.{Shape}
 use Rattle.index.specs.Exact.{WithinLimits, IsText}
-use Rattle.index.proofs.Refusals.{text_rank}
+use Rattle.index.proofs.Refusals.{some_number, text_rank}
 use Rattle.measuring.specs.Sizes.{measured, measured_of, measure_answer}
 use Rattle.measuring.specs.Passes.{LimitsAnswer, PassOf}
 use Rattle.measuring.proofs.Sizes.{measured_zeros, turned_down, measured_as}
@@ -73,28 +72,6 @@ all_passed s vocab t [] at bytes none e f b =
 all_passed s vocab t (x ∷ rest) at bytes none e f b = absurd (omega (arith, none))
 
 -- ---- refusals
-
--- each refusal has a number
-some_number : (x : Refusal) → number_of x ≡ 0 → ⊥
-some_number Vocabulary e = omega arith
-some_number Words e = omega arith
-some_number Blocks e = omega arith
-some_number TextRank e = omega arith
-some_number ShortSlice e = omega arith
-some_number Index e = omega arith
-some_number Kind e = omega arith
-some_number Phrase e = omega arith
-some_number AskedRank e = omega arith
-some_number Offset e = omega arith
-some_number Place e = omega arith
-some_number Page e = omega arith
-some_number WordList e = omega arith
-some_number Unlisted e = omega arith
-some_number Stream e = omega arith
-some_number Sizes e = omega arith
-some_number ListMaking e = omega arith
-some_number Table e = omega arith
-some_number Documents e = omega arith
 
 module _ (s : ℕ) (shape : Shape) (t : List ℕ) where
   -- a refusal of the tests before the ranks is the answer of measuring
