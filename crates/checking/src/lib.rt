@@ -10,7 +10,6 @@ ghost use Rattle.base.specs.Outcomes.{test_answer};
 ghost use Rattle.dense.specs.Code.{Closing};
 ghost use Rattle.starts.specs.Starts.{max_starts};
 ghost use Rattle.index.specs.Arrays.{arrays, passes as arraysPass};
-ghost use Rattle.index.specs.Lent.{slices_of};
 ghost use Rattle.index.specs.Entries.{check_answer};
 ghost use Rattle.index.specs.Exact.{WithinLimits};
 ghost use Rattle.index.specs.Lent.{slices_of};
@@ -65,7 +64,7 @@ pub fn passes(index: &LentIndex) -> bool
     }
     let block = shape.block;
     let per = shape.per_superblock;
-    if !counter_checks::verify(bytes, index.superblocks, index.blocks, block, per) {
+    if !counter_checks::verify(bytes, superblocks, blocks, block, per) {
         return false;
     }
     let counted = CountedBytes {
