@@ -74,6 +74,7 @@ pub write_exit_is : (s vocab : ℕ) (t z : List ℕ) → write_stream_exit s voc
 unfolding write_stream_exit filled
 write_exit_is s vocab t z = refl
 
+-- what the call that writes is proved with
 pub ruleset write_cases = (write_answer_is, write_exit_is, rank_outside, no_rank_outside, nat_tests)
 
 -- the same of the call that reads
@@ -88,6 +89,7 @@ pub read_exit_is : (s : ℕ) (bytes z : List ℕ) → read_stream_exit s bytes z
 unfolding read_stream_exit filled
 read_exit_is s bytes z = refl
 
+-- what the call that reads is proved with
 pub ruleset read_cases = (read_answer_is, read_exit_is, nat_tests)
 
 -- the refusals of the call that reads, in their order

@@ -41,12 +41,19 @@ fn is_entry(table: &[u8], x: u8) -> bool
 }
 
 // Whether each of the 256 entries of a table is 0 or a byte that the table keeps, and some entry is
-// not 0.
+// not 0: one pass over them, where `all` and `any` would be two.
 fn entries_pass(table: &[u8]) -> bool
     requires { length table.now ≡ 256 }
     ensures { result ≡ keeps_entries table.now && has_letter table.now }
 {
-    table.iter().all(|x| is_entry(table, *x)) && table.iter().any(|x| *x != 0)
+    let mut some = false;
+    for x in table {
+        if !is_entry(table, *x) {
+            return false;
+        }
+        some = some | (*x != 0);
+    }
+    some
 }
 
 // Whether a slice of any length is a letter table that keeps the rules.

@@ -1,30 +1,17 @@
--- `lexicon::entries_pass`: all entries are tested, and then whether one of them is not 0.
-use Rattle.std.proofs.Common.{ℕ, ◌≡◌, true, false, sym, ◌∙◌, rules}
-use Rattle.std.specs.Prelude.{not, eqb}
-use Rattle.std.proofs.lemmas.Iterator.{YieldsList-from_slice}
-use Rattle.std.proofs.lemmas.Iterator.Search.{all_from_yields_List, any_from_yields_List}
-use borrow.Author.Tests.{tests}
-use Rattle.lexicon.specs.Letters.{is_entry, keeps_entries}
-use Rattle.lexicon.proofs.Entries.{kept_by_all, letter_by_any}
+-- `lexicon::entries_pass`: one entry more is kept, or the table is broken.
+use Rattle.std.proofs.Common.{sym, ◌∙◌}
+use Rattle.lexicon.proofs.Entries.{seen_first, seen_next, seen_all, seen_broken}
 use Rattle.lexicon.proofs.entries_pass.Goals as goal
-use Rattle.lexicon.proofs.entries_pass.Goals.{After-all}
 
--- the test of all entries is that of the table
-all_tested : (c : After-all) → c.all.result ≡ keeps_entries c.args.table.now
-all_tested c =
-    let table = c.args.table.now in
-    all_from_yields_List (is_entry table) _ _ c.all.result c.all.ensures.ran (YieldsList-from_slice table cc) (λ x b q k. search (rules, tests))
-    ∙ kept_by_all table
+pub loop-x-init : goal.loop-x-init
+loop-x-init c = seen_first _
 
-pub returns-then-all : goal.returns-then-all
-returns-then-all c =
-    let table = c.args.table.now in
-    let kept : keeps_entries table ≡ true = sym (all_tested (goal.at.returns-then-all c).After-all) ∙ c.if-all.true in
-    rw kept
-    (any_from_yields_List (λ (x : ℕ). not (eqb x 0)) _ _ c.any.result c.any.ensures.ran (YieldsList-from_slice table cc) (λ x b q k. search (rules, tests))
-    ∙ letter_by_any table)
+pub returns-then-not-is_entry : goal.returns-then-not-is_entry
+returns-then-not-is_entry c = sym (seen_broken c.args.table.now c.loop-x.x-index c.loop-x-test.true (sym c.is_entry.ensures ∙ c.if-not-is_entry.true))
 
-pub returns-else-all : goal.returns-else-all
-returns-else-all c =
-    let broken : keeps_entries c.args.table.now ≡ false = sym (all_tested (goal.at.returns-else-all c).After-all) ∙ c.if-all.false in
-    rw broken c.if-all.false
+pub loop-x-preserved : goal.loop-x-preserved
+loop-x-preserved c =
+    seen_next c.args.table.now c.loop-x.x-index c.loop-x.some c.loop-x-test.true c.loop-x.invariant (sym c.is_entry.ensures ∙ c.if-not-is_entry.false)
+
+pub returns : goal.returns
+returns c = seen_all c.args.table.now c.loop-x.x-index c.loop-x.some c.loop-x-test.false c.loop-x.invariant
