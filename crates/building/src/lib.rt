@@ -3,15 +3,43 @@
 // The entries are `build` and `build_sized`, with 128 closing values.
 #![tactic(auto)]
 
-ghost use Rattle.std.specs.Prelude.{◌≡◌};
+ghost use Rattle.std.specs.Prelude.{◌≡◌, ◌≤◌, length};
+ghost use Rattle.base.specs.Outcomes.{answer_of};
 ghost use Rattle.dense.specs.Code.{Closing};
+ghost use Rattle.dense.specs.Streams.{stream};
 ghost use Rattle.index.specs.Arrays.{arrays};
 ghost use Rattle.index.specs.Entries.{build_answer, build_exit};
+ghost use Rattle.index.specs.Exact.{WithinLimits, IsText};
 ghost use Rattle.measuring.specs.Sizes.{build_sized_answer, build_sized_exit};
 
-use base::{Answer, refusal};
+use base::Answer;
+use base::refusal::{Refusal, Refused};
 use index::Shape;
 use measuring::IndexSizes;
+
+// Builds the index of a text that is measured, which needs so many bytes.
+fn build_measured(
+    s: usize,
+    shape: Shape,
+    text: &[u32],
+    needed: usize,
+    lengths: &mut [u32],
+    bytes: &mut [u8],
+    superblocks: &mut [u32],
+    blocks: &mut [u16],
+) -> Result<usize, Refused>
+    requires text { Closing s × WithinLimits s shape × IsText shape.vocabulary text.now }
+    requires bytes { needed ≡ length (stream s text.now) }
+    ensures answered { answer_of result ≡ build_answer s shape text.now (arrays lengths.old bytes.old superblocks.old blocks.old) }
+    ensures filled { arrays lengths.new bytes.new superblocks.new blocks.new
+        ≡ build_exit s shape text.now (arrays lengths.old bytes.old superblocks.old blocks.old) }
+{
+    if writing::too_short(s, shape, needed, lengths, bytes, superblocks, blocks) {
+        return Err(Refusal::ShortSlice.into());
+    }
+    writing::write_index(s, shape, text, needed, lengths, bytes, superblocks, blocks);
+    Ok(needed)
+}
 
 // Builds the index of a text with s closing values: it is measured, and then built. The answer and
 // the slices are those of paper 01.
@@ -23,22 +51,14 @@ pub fn build_of(
     bytes: &mut [u8],
     superblocks: &mut [u32],
     blocks: &mut [u16],
-) -> Answer
+) -> Result<usize, Refused>
     requires { Closing s }
-    ensures answered { result ≡ build_answer s shape text.now (arrays lengths.old bytes.old superblocks.old blocks.old) }
+    ensures answered { answer_of result ≡ build_answer s shape text.now (arrays lengths.old bytes.old superblocks.old blocks.old) }
     ensures filled { arrays lengths.new bytes.new superblocks.new blocks.new
         ≡ build_exit s shape text.now (arrays lengths.old bytes.old superblocks.old blocks.old) }
 {
-    let measured = measuring::measure_of(s, shape, text);
-    if measured.answer.refusal != 0 {
-        return measured.answer;
-    }
-    let needed = measured.sizes.bytes;
-    if writing::too_short(s, shape, needed, lengths, bytes, superblocks, blocks) {
-        return Answer::refused(refusal::SHORT_SLICE);
-    }
-    writing::write_index(s, shape, text, needed, lengths, bytes, superblocks, blocks);
-    Answer::accepted(needed)
+    let needed = measuring::measure_of(s, shape, text)?.bytes;
+    build_measured(s, shape, text, needed, lengths, bytes, superblocks, blocks)
 }
 
 // Builds the index of a text with s closing values and sizes that are handed back: the answer and
@@ -53,25 +73,26 @@ pub fn build_sized_of(
     bytes: &mut [u8],
     superblocks: &mut [u32],
     blocks: &mut [u16],
-) -> Answer
+) -> Result<usize, Refused>
     requires { Closing s }
-    ensures answered { result ≡ build_sized_answer s shape sizes text.now (arrays lengths.old bytes.old superblocks.old blocks.old) }
+    ensures answered { answer_of result ≡ build_sized_answer s shape sizes text.now (arrays lengths.old bytes.old superblocks.old blocks.old) }
     ensures filled { arrays lengths.new bytes.new superblocks.new blocks.new
         ≡ build_sized_exit s shape sizes text.now (arrays lengths.old bytes.old superblocks.old blocks.old) }
 {
-    let measured = measuring::measure_of(s, shape, text);
-    if measured.answer.refusal != 0 {
-        return measured.answer;
+    let measured = measuring::measure_of(s, shape, text)?;
+    if !measuring::same_sizes(sizes, measured) {
+        return Err(Refusal::Sizes.into());
     }
-    if !measuring::same_sizes(sizes, measured.sizes) {
-        return Answer::refused(refusal::SIZES);
-    }
-    let counted = measured.sizes.bytes;
-    if writing::too_short(s, shape, counted, lengths, bytes, superblocks, blocks) {
-        return Answer::refused(refusal::SHORT_SLICE);
-    }
-    writing::write_index(s, shape, text, counted, lengths, bytes, superblocks, blocks);
-    Answer::accepted(counted)
+    build_measured(
+        s,
+        shape,
+        text,
+        measured.bytes,
+        lengths,
+        bytes,
+        superblocks,
+        blocks,
+    )
 }
 
 // Builds the index of a text of the published code in front of the four slices, and answers the
@@ -98,6 +119,7 @@ pub fn build(
         superblocks,
         blocks,
     )
+    .into()
 }
 
 // Builds the index of a text of the published code with the four sizes that measuring gave, in front
@@ -127,4 +149,5 @@ pub fn build_sized(
         superblocks,
         blocks,
     )
+    .into()
 }

@@ -116,6 +116,7 @@ module _ (s : ℕ) (shape : Shape) where
       go false v true b = first_later _ _ _ _ v ∙ first_here _ _ _ _ b ∙ ap refused (sym (limits_blocks v b))
       go false v false b = absurd (n (limits_none (tested_limits s shape v b)))
 
+  -- and so is a refusal that has their number
   pub check_numbered : (a : Arrays) (x : Refusal) → number_of x ≡ limits_refusal s shape → refused (number_of x) ≡ check_answer s shape a
   check_numbered a x e = ap refused e ∙ sym (check_refused a (λ z. some_number x (e ∙ z)))
 

@@ -55,7 +55,7 @@ measured_of s shape t =
       sizes = cond (is_accepted (measure_answer s shape t)) (sizes_of s shape t) no_sizes;
     }
 
--- what is returned of a call that measures: the sizes beside 0, four zeros beside a refusal
+-- what a call that measures returns: the sizes beside 0, four zeros beside a refusal
 abbrev pub measured : Result IndexSizes Refused → Measured
 measured (Ok sizes) = record { answer = accepted 0; sizes = sizes }
 measured (Err e) = record { answer = refused_at (number_of e.refusal) e.at; sizes = no_sizes }

@@ -29,7 +29,8 @@ pub struct IndexSizes {
     pub block_rows: usize,
 }
 
-// What measuring returns: its answer, and the sizes, four zeros where it is refused.
+// What measuring returns: its answer, and the sizes, four zeros where it is refused. The C interface
+// has them in one struct.
 #[repr(C)]
 #[derive(Clone, Copy)]
 pub struct Measured {

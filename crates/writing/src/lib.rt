@@ -35,7 +35,9 @@ pub fn too_short(
         || blocks.len() < block_rows * 256
 }
 
-// Writes the index of a text to the fronts of the four slices; the rest stays.
+// Writes the index of a text to the fronts of the four slices; the rest stays. The slices are lent
+// one by one: with them in a struct the proof did not close, since it knows no element of a field's
+// slice once a part of that was lent to be read.
 pub fn write_index(
     s: usize,
     shape: Shape,
