@@ -35,33 +35,22 @@ pub fn way_of(text: &IndexedText, rank: usize) -> Way
     ensures { WayOf text.now.index.s text.now.index.bytes.now text.now.starts.now rank result }
 {
     let s = text.index.s;
-    let node = tree::node_of(s, rank);
+    let mut node = tree::node_of(s, rank);
     let byte = tree::closing_byte(s, rank);
     let first = text.step_in(node, byte);
-    if node == 0 {
-        return Way {
-            length: 1,
-            first,
-            above: [first; 2],
-        };
+    let mut above = [first; 2];
+    let mut length = 1;
+    while node != 0 {
+        let up = tree::parent(s, node);
+        let digit = tree::digit(s, node);
+        above[length - 1] = text.step_in(up, digit);
+        length += 1;
+        node = up;
     }
-    let up = tree::parent(s, node);
-    let digit = tree::digit(s, node);
-    let second = text.step_in(up, digit);
-    if up == 0 {
-        return Way {
-            length: 2,
-            first,
-            above: [second; 2],
-        };
-    }
-    let top = tree::parent(s, up);
-    let lead = tree::digit(s, up);
-    let third = text.step_in(top, lead);
     Way {
-        length: 3,
+        length,
         first,
-        above: [second, third],
+        above,
     }
 }
 
@@ -204,7 +193,8 @@ pub struct Stretch {
 
 // The part of the root in which the occurrence after those that a walk has passed stands: along its
 // way, from its closing byte in the node where its codeword ends up to the root, where a position is
-// a place. Exactly, its place alone; otherwise its piece, and the place is not looked for.
+// a place. Exactly, its place alone; otherwise its piece, and the place is not looked for. A flag says
+// which, as the callers have it from a test.
 pub fn piece_along(text: &IndexedText, rank: usize, way: Way, track: Track, exact: bool) -> Stretch
     requires { (rank < vocabulary_of text.now) × WayOf text.now.index.s text.now.index.bytes.now text.now.starts.now rank way × TrackOf text.now.index.s text.now.index.bytes.now text.now.starts.now rank track × (track.ordinal < frequency (text_of text.now) rank) }
     ensures { (result.from ≤ nth rank track.ordinal (text_of text.now)) × (nth rank track.ordinal (text_of text.now) < result.to)
