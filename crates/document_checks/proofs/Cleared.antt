@@ -33,5 +33,5 @@ module _ (s : ℕ) (shape : Shape) (a : Arrays) (documents : List ℕ) (closing 
   cleared r v was is = by_none (ap (λ (x : Answer). x.refusal) (tested_ok r v _ was is))
 
   pub cleared_not : (r : Result ⊤ Refused) → ((e : Refused) → r ≡ Err e → ⊥) → test_answer r ≡ check_answer_in s shape a documents → Cleared s shape a documents
-  cleared_not (Ok v) no is = cleared (Ok v) v refl is
-  cleared_not (Err e) no is = absurd (no e refl)
+  cleared_not (Ok v) not-err is = cleared (Ok v) v refl is
+  cleared_not (Err e) not-err is = absurd (not-err e refl)

@@ -82,6 +82,7 @@ fn fill_page(
         words,
         sought: Sought::Phrase,
     };
+    // The lines written are counted here, since their number is handed back at the end too.
     let mut count = 0;
     let mut last = Place(0);
     for place in hits::hits_from(&query, next) {
@@ -102,6 +103,7 @@ fn write_places(from: Place, end: Place, lines: &mut [u32]) -> Written
     ensures { (result ≡ written_of (page_over every_place end.0 (length lines.old) from.0 false))
         × (lines.new ≡ front (page_over every_place end.0 (length lines.old) from.0 false).found lines.old) }
 {
+    // As in `fill_page` the lines written are counted here.
     let mut count = 0;
     let mut last = Place(0);
     for at in from.0..=end.0 {

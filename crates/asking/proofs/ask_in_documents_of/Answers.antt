@@ -38,6 +38,15 @@ answer_no_words-requires c =
     let h = clear (goal.at.answer_no_words-requires c).In_ok-check_in_documents in
     omega (arith, c.text_length-n.ensures.1 _ _ _ _ _ h.checked, text_most h.checked)
 
+pub returns-then-question-eq0 : goal.returns-then-question-eq0
+returns-then-question-eq0 c =
+    let h = (goal.at.returns-then-question-eq0 c).In_ok-check_in_documents in
+    let x = c.args.index.now in
+    let t = text_in x.s (slices_of x) in
+    c.answer_no_words.ensures x.shape.vocabulary t c.args.documents.now (sym (c.text_length-n.ensures.1 _ _ _ _ _ (clear h).checked))
+    ∙ ap (phrase_answer x.shape.vocabulary t c.args.documents.now c.args.words.now c.args.question.start) (sym c.if-question-eq0.true)
+    ∙ sym (answered h ∙ kind_5 x.shape.vocabulary t c.args.documents.now c.args.words.now c.args.question c.if-question.true)
+
 pub node_starts-requires : goal.node_starts-requires
 node_starts-requires c =
     let h = clear (goal.at.node_starts-requires c).In_ok-check_in_documents in

@@ -44,18 +44,18 @@ pub text_length-n-requires : goal.text_length-n-requires
 text_length-n-requires c = checked_some (checked (goal.at.text_length-n-requires c).In_ok-check_of)
 
 -- what the first of the lengths gives is the length of the text
-size : (c : After-text_length-n) → c.text_length-n.result ≡ length (text_in c.args.index.now.s (slices_of c.args.index.now))
-size c = c.text_length-n.ensures.1 _ _ _ _ _ (checked c.In_ok-check_of)
+size : (c : After-text_length-n) → Checked c.args.index.now.s c.args.index.now.shape (slices_of c.args.index.now) → c.text_length-n.result ≡ length (text_in c.args.index.now.s (slices_of c.args.index.now))
+size c h = c.text_length-n.ensures.1 _ _ _ _ _ h
 
 pub returns-then-n-place : goal.returns-then-n-place
 returns-then-n-place c =
     let h = goal.at.returns-then-n-place c in
-    rw c.into.ensures (past h.In_ok-check_of (omega (arith, size h.After-text_length-n, c.if-n-place.true)))
+    rw c.into.ensures (past h.In_ok-check_of (omega (arith, size h.After-text_length-n (checked h.In_ok-check_of), c.if-n-place.true)))
 
 pub returns-then-n-place-2 : goal.returns-then-n-place-2
 returns-then-n-place-2 c =
     let h = goal.at.returns-then-n-place-2 c in
-    rw c.into-then-n-place-2.ensures (past h.In_ok-check_of (omega (arith, size h.After-text_length-n, c.if-n-place-2.true, c.if-n-place.false)))
+    rw c.into-then-n-place-2.ensures (past h.In_ok-check_of (omega (arith, size h.After-text_length-n (checked h.In_ok-check_of), c.if-n-place-2.true, c.if-n-place.false)))
 
 pub node_starts-requires : goal.node_starts-requires
 node_starts-requires c =
@@ -68,14 +68,14 @@ invariant_of-text c = record { ready = record { checked = checked (goal.at.invar
 pub read_passage-requires : goal.read_passage-requires
 read_passage-requires c =
     let h = goal.at.read_passage-requires c in
-    omega (arith, size h.After-text_length-n, c.if-n-place-2.false, c.if-n-place.false)
+    omega (arith, size h.After-text_length-n (checked h.In_ok-check_of), c.if-n-place-2.false, c.if-n-place.false)
 
 pub returns : goal.returns
 returns c =
     let h = goal.at.returns c in
     let x = c.args.index.now in
     let t = text_in x.s (slices_of x) in
-    let lies : c.args.place + length c.args.ranks.now ≤ length t = omega (arith, size h.After-text_length-n, c.if-n-place-2.false, c.if-n-place.false) in
+    let lies : c.args.place + length c.args.ranks.now ≤ length t = omega (arith, size h.After-text_length-n (checked h.In_ok-check_of), c.if-n-place-2.false, c.if-n-place.false) in
     let ok = passed h.In_ok-check_of in
     let filled = c.read_passage.ensures in
     let m : length (take (length c.args.ranks.now) (drop c.args.place t)) ≡ length c.args.ranks.now = length-take-le (length c.args.ranks.now) (drop c.args.place t) (omega (arith, lies, length-drop c.args.place t)) in (

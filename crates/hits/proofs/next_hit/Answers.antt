@@ -15,7 +15,7 @@ use Rattle.hits.proofs.Least.{hit_after}
 use Rattle.hits.proofs.Searches.{anchored_inside, second_back, second_there, reaches}
 use Rattle.hits.proofs.Sweeping.{Swept, swept_begin, swept_hit, swept_over, swept_all, swept_next}
 use Rattle.hits.proofs.next_hit.Goals as goal
-use Rattle.hits.proofs.next_hit.Goals.{After-hit_in_part-hit, then-high-until-via-then-high-until, then-high-until-via-else-high-until+then-search-track}
+use Rattle.hits.proofs.next_hit.Goals.{After-hit_in_part-hit, then-high-until-via-then-high-until, then-high-until-via-else-high-until+then-frequency-track}
 
 -- what is known of the places of a query's hits by a search for it
 module _ (q : Query) (x : Search) (h : SearchIn q x) where
@@ -105,7 +105,7 @@ returns-then-high-until c =
     let p = (goal.at.returns-then-high-until c).After-hit_in_part-hit in
     let least : least_hit (is_hit c.args.query.now) c.args.search.now.place.0 c.args.end.0 ≡ None = elim c.then-high-until.branch [
       | then-high-until-via-then-high-until w ↦ over p c.in_default.ensures (omega (arith, w.if-high-until.true))
-      | then-high-until-via-else-high-until+then-search-track w ↦ all p c.in_default.ensures (omega (arith, w.if-high-until.false)) (omega (arith, w.if-search-track.true))
+      | then-high-until-via-else-high-until+then-frequency-track w ↦ all p c.in_default.ensures (omega (arith, w.if-high-until.false)) (omega (arith, w.if-frequency-track.true))
     ] in
     reaches c.args.search.now c.requires.0 _ _ _ _ _ _ c.moved_to-then-high-until.ensures (sym least) c.loop-place.invariant.tracked
     (λ r g f. c.loop-place.invariant.swept.passed r (omega (arith, c.requires.1)) f)

@@ -22,7 +22,7 @@ returns-in_err-check_in_documents-clause-answered c =
 pub returns-then-room-asked-clause-answered : goal.returns-then-room-asked-clause-answered
 returns-then-room-asked-clause-answered c =
     let x = c.args.index.now in
-    let h = clear (goal.at.returns-then-room-asked c).In_ok-check_in_documents in
+    let h = clear (goal.at.returns-then-room-asked-clause-answered c).In_ok-check_in_documents in
     rw c.into.ensures (sym (sheet_short x.s x.shape (slices_of x) c.args.documents.now c.args.asked c.args.room h.passed h.starts (omega (arith, c.if-room-asked.true))))
 
 pub node_starts-requires : goal.node_starts-requires
@@ -33,8 +33,8 @@ node_starts-requires c =
 pub returns-clause-answered : goal.returns-clause-answered
 returns-clause-answered c =
     let x = c.args.index.now in
-    let h = clear (goal.at.returns c).In_ok-check_in_documents in
+    let h = clear (goal.at.returns-clause-answered c).In_ok-check_in_documents in
     sym (sheet_accepted x.s x.shape (slices_of x) c.args.documents.now c.args.asked c.args.room h.passed h.starts (omega (arith, c.if-room-asked.false)))
 
 pub returns-clause-ready : goal.returns-clause-ready
-returns-clause-ready c = ((starts_are _ _ (clear (goal.at.returns c).In_ok-check_in_documents).starts).ascending, c.node_starts.ensures)
+returns-clause-ready c = ((starts_are _ _ (clear (goal.at.returns-clause-ready c).In_ok-check_in_documents).starts).ascending, c.node_starts.ensures)

@@ -45,15 +45,15 @@ returns-in_err-phrase c =
     let r =
         summary_asked x.s x.shape (slices_of x) c.args.documents.now c.args.words.now c.args.start c.args.count (length c.args.counts.now) (clear h.In_ok-check_in_documents).none (λ z. refusal_some refusal (sym (ap (λ (y : Answer). y.refusal) asked) ∙ z))
         ∙ asked in
-    (answer_from_refusal _ refusal c.from_residual.ensures.1 ∙ sym r, left h.Start _ r (refusal_some refusal))
+    (answer_from_refusal _ refusal c.from_residual-in_err-phrase.ensures.1 ∙ sym r, left h.Start _ r (refusal_some refusal))
 
 -- past the tests of what is asked for it is accepted
-module _ (c : In_ok-phrase) where
+module _ (c : In_ok-phrase) (checks : Cleared c.args.index.now.s c.args.index.now.shape (slices_of c.args.index.now) c.args.documents.now) where
   answered : let x = c.args.index.now in
       summary_answer x.s x.shape (slices_of x) c.args.documents.now c.args.words.now c.args.start c.args.count (length c.args.counts.now) ≡ accepted (length c.args.documents.now)
   answered =
       let x = c.args.index.now in
-      summary_accepted x.s x.shape (slices_of x) c.args.documents.now c.args.words.now c.args.start c.args.count (length c.args.counts.now) (clear c.In_ok-check_in_documents).none (ap (λ (r : Answer). r.refusal) c.in_ok-phrase.ensures.0)
+      summary_accepted x.s x.shape (slices_of x) c.args.documents.now c.args.words.now c.args.start c.args.count (length c.args.counts.now) checks.none (ap (λ (r : Answer). r.refusal) c.in_ok-phrase.ensures.0)
 
   passed : Summarised c.args.index.now.s c.args.index.now.shape (slices_of c.args.index.now) c.args.documents.now c.args.words.now c.args.start c.args.count (length c.args.counts.now)
   passed =
@@ -64,22 +64,26 @@ module _ (c : In_ok-phrase) where
   phrase_is = c.in_ok-phrase.ensures.1
 
 pub clear_counts-requires : goal.clear_counts-requires
-clear_counts-requires c = omega (arith, (passed (goal.at.clear_counts-requires c).In_ok-phrase).enough)
+clear_counts-requires c =
+    let h = goal.at.clear_counts-requires c in
+    omega (arith, (passed h.In_ok-phrase (clear h.In_ok-check_in_documents)).enough)
 
 -- a phrase with an absent word is counted in no document
 pub returns-then-has_absent : goal.returns-then-has_absent
 unfolding summary_exit filled
 returns-then-has_absent c =
-    let h = (goal.at.returns-then-has_absent c).In_ok-phrase in
+    let k = goal.at.returns-then-has_absent c in
+    let h = k.In_ok-phrase in
+    let checks = clear k.In_ok-check_in_documents in
     let x = c.args.index.now in
     let v = x.shape.vocabulary in
     let phrase = phrase_in c.args.words.now c.args.start c.args.count in
-    let at = absent_at v phrase (sym (c.has_absent.ensures ∙ ap (has_absent v) (phrase_is h)) ∙ c.if-has_absent.true) in
-    let absent = absent_words v c.args.documents.now (text_in x.s (slices_of x)) (ranks_below_lem (clear h.In_ok-check_in_documents).checked) in (
-      sym (answered h),
+    let at = absent_at v phrase (sym (c.has_absent.ensures ∙ ap (has_absent v) (phrase_is h checks)) ∙ c.if-has_absent.true) in
+    let absent = absent_words v c.args.documents.now (text_in x.s (slices_of x)) (ranks_below_lem checks.checked) in (
+      sym (answered h checks),
       c.clear_counts.ensures
           ∙ ap (λ (counts : List ℕ). front counts c.args.counts.now) (sym (absent.uncounted phrase at.0 at.1 at.2))
-          ∙ sym (rw (answered h)),
+          ∙ sym (rw (answered h checks)),
     )
 
 pub node_starts-requires : goal.node_starts-requires
@@ -92,25 +96,29 @@ invariant_of-text c = record { ready = record { checked = (clear (goal.at.invari
 
 pub count_by_document-requires : goal.count_by_document-requires
 count_by_document-requires c =
-    let h = (goal.at.count_by_document-requires c).In_ok-phrase in
+    let k = goal.at.count_by_document-requires c in
+    let h = k.In_ok-phrase in
+    let checks = clear k.In_ok-check_in_documents in
     let v = c.args.index.now.shape.vocabulary in
     let phrase = phrase_in c.args.words.now c.args.start c.args.count in
-    let n : length phrase ≡ c.args.count = part_length v c.args.words.now c.args.start c.args.count (passed h).inside in
-    rw (phrase_is h) (
-      omega (arith, n, (passed h).some),
-      omega (arith, n, (passed h).most),
-      askable_below v phrase (passed h).askable (sym (c.has_absent.ensures ∙ ap (has_absent v) (phrase_is h)) ∙ c.if-has_absent.false),
-      (passed h).rules,
-      (passed h).enough,
+    let n : length phrase ≡ c.args.count = part_length v c.args.words.now c.args.start c.args.count (passed h checks).inside in
+    rw (phrase_is h checks) (
+      omega (arith, n, (passed h checks).some),
+      omega (arith, n, (passed h checks).most),
+      askable_below v phrase (passed h checks).askable (sym (c.has_absent.ensures ∙ ap (has_absent v) (phrase_is h checks)) ∙ c.if-has_absent.false),
+      (passed h checks).rules,
+      (passed h checks).enough,
     )
 
 pub returns : goal.returns
 unfolding summary_exit filled
 returns c =
-    let h = (goal.at.returns c).In_ok-phrase in
+    let k = goal.at.returns c in
+    let h = k.In_ok-phrase in
+    let checks = clear k.In_ok-check_in_documents in
     let x = c.args.index.now in (
-      sym (answered h),
+      sym (answered h checks),
       c.count_by_document.ensures
-          ∙ ap (λ (ws : List ℕ). front (counts_by_document c.args.documents.now (text_in x.s (slices_of x)) ws) c.args.counts.now) (phrase_is h)
-          ∙ sym (rw (answered h)),
+          ∙ ap (λ (ws : List ℕ). front (counts_by_document c.args.documents.now (text_in x.s (slices_of x)) ws) c.args.counts.now) (phrase_is h checks)
+          ∙ sym (rw (answered h checks)),
     )
