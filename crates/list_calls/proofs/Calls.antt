@@ -8,13 +8,20 @@ use lib.Dec.{ltb}
 use lib.ListN.{length}
 use Rattle.base.proofs.Answers.{first_here, first_later, answers, filled_not, filled_front}
 use Rattle.base.proofs.Tests.{or_false, or_left, or_right}
-use Rattle.base.specs.Answers.{accepted, refused, is_accepted, front}
+use Rattle.base.specs.Answers.{accepted, refused, refused_at, is_accepted, front}
+use Rattle.base.specs.Outcomes.{number_of, refused_by}
+use Rattle.base.specs.declared.refusal.Refusal.{Refusal}
+use Rattle.base.specs.declared.refusal.Refused.{Refused}
 use Rattle.base.specs.Refusals.{refusal_words, refusal_short_slice, refusal_list_making}
 use Rattle.base.specs.Texts.{max_words, words_case}
 use Rattle.base.specs.declared.Answer.{Answer}
 use Rattle.lexicon.specs.Reading.{text_words}
 use Rattle.list_calls.specs.declared.ListMade.{ListMade}
 use Rattle.list_calls.specs.Making.{max_list_text, max_list_words, made_words, made_list, made_ranks, list_making_case, list_room_case, make_list_answer, list_made, make_list_exit, make_ranks_exit}
+
+-- the answer of a call that a refusal ends with which 0 is returned
+pub refused_is : (e : Refused) (why : Refusal) → e ≡ refused_by why → refused_at (number_of e.refusal) e.at ≡ refused (number_of why)
+refused_is e why q = ap (λ (x : Refused). refused_at (number_of x.refusal) x.at) q
 
 module _ (table text y z : List ℕ) where
   -- ---- the refusals in their order, and none

@@ -1,1 +1,2 @@
 pub mod Making
+pub mod Outcomes

@@ -25,3 +25,14 @@ pub record ListNoted (table text starts order firsts values : List ℕ) (size wo
   pub long : size ≤ length firsts
   pub below : Below (length values) (take size firsts)
   pub ranked : map (λ p. get_or values p 0) (take size firsts) ≡ made_ranks table text
+
+-- the same, of a letter table that is known to keep the rules, and place by place
+pub record AllNoted (table text starts order firsts values : List ℕ) (size words : ℕ) : Type 0 where
+  pub sized : size ≡ length (spellings table text)
+  pub short : length text ≤ max_list_text
+  pub number : words ≡ length (made_words table text)
+  pub few : words ≤ max_list_words
+  pub noted : WordsNoted table text starts order
+  pub long : size ≤ length firsts
+  pub below : (i : ℕ) → i < size → get_or firsts i 0 < length values
+  pub ranked : map (λ p. get_or values p 0) (take size firsts) ≡ made_ranks table text

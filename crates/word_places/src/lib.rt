@@ -2,38 +2,40 @@
 // how often it stands; with every letter table that keeps the rules.
 #![tactic(auto)]
 
-ghost use Rattle.std.specs.Prelude.{◌≡◌, true, cond, suc, ◌-◌, ◌≤◌, ◌<◌, ltb, length, get_or, set, take};
+ghost use Rattle.std.specs.Prelude.{◌≡◌, cond, suc, ◌-◌, ◌≤◌, ◌<◌, ltb, length, get_or, set, take};
 ghost use Rattle.base.specs.Lists.{Below, filter_by};
-ghost use Rattle.lexicon.specs.Letters.{is_table};
+ghost use Rattle.hashing.specs.Parts.{link_to};
 ghost use Rattle.lexicon.specs.Reading.{spellings};
 ghost use Rattle.scanning.specs.Scans.{buckets, bucket_of};
 ghost use Rattle.counting_sort.specs.Sorting.{Cleared, Histogram};
 ghost use Rattle.word_places.specs.Places.{word_of, DistinctChained, Begun, earlier_place, TextNoted};
 
-// Looks the word at a place up among those before it, of which the distinct ones are in a hash table: 1
-// and the place at which it appears first, 0 where it has not appeared before.
+use scanning::Letters;
+
+// Looks the word at a place up among those before it, of which the distinct ones are in a hash table:
+// the place at which it appears first, if it has appeared before.
 fn find_earlier(
-    table: &[u8],
+    letters: &Letters,
     text: &[u8],
     heads: &[u32],
     links: &[u32],
     starts: &[usize],
     place: usize,
     bucket: usize,
-) -> usize
-    requires { (is_table table.now ≡ true) × (place < length (spellings table.now text.now)) × Begun table.now text.now (suc place) starts.now × DistinctChained (spellings table.now text.now) place heads.now links.now × (place ≤ length links.now) × (bucket ≡ bucket_of (word_of (spellings table.now text.now) place)) }
-    ensures { result ≡ earlier_place (spellings table.now text.now) place }
+) -> Option<usize>
+    requires { let words = spellings letters.now.table.now text.now in (place < length words) × Begun letters.now.table.now text.now (suc place) starts.now × DistinctChained words place heads.now links.now × (place ≤ length links.now) × (bucket ≡ bucket_of (word_of words place)) }
+    ensures { link_to result ≡ earlier_place (spellings letters.now.table.now text.now) place }
 {
     let start = starts[place];
     let mut other = heads[bucket] as usize;
     while 0 < other {
         let begin = starts[other - 1];
-        if scanning::same_word(table, text, start, text, begin) {
-            return other;
+        if letters.same_word(text, start, text, begin) {
+            return Some(other - 1);
         }
         other = links[other - 1] as usize;
     }
-    0
+    None
 }
 
 // Puts the word at a place that was not found before it into its bucket, in front of the others. It
@@ -43,13 +45,13 @@ fn add_word(
     links: &mut [u32],
     bucket: usize,
     place: usize,
-    found: usize,
+    found: Option<usize>,
 ) -> usize
     requires { (bucket < length heads.old) × (place < length links.old) × (place < 4294967295) }
-    ensures { (result ≡ cond (ltb 0 found) (found - 1) place) × (heads.new ≡ cond (ltb 0 found) heads.old (set heads.old bucket (suc place))) × (links.new ≡ cond (ltb 0 found) links.old (set links.old place (get_or heads.old bucket 0))) }
+    ensures { let link = link_to found in (result ≡ cond (ltb 0 link) (link - 1) place) × (heads.new ≡ cond (ltb 0 link) heads.old (set heads.old bucket (suc place))) × (links.new ≡ cond (ltb 0 link) links.old (set links.old place (get_or heads.old bucket 0))) }
 {
-    if 0 < found {
-        return found - 1;
+    if let Some(first) = found {
+        return first;
     }
     links[place] = heads[bucket];
     heads[bucket] = (place + 1) as u32;
@@ -59,27 +61,25 @@ fn add_word(
 // Notes of each word of a text where it begins and the place at which it appears first, by a hash table
 // of the distinct words, which is empty before. It gives the number of words.
 pub fn note_words(
-    table: &[u8],
+    letters: &Letters,
     text: &[u8],
     heads: &mut [u32],
     links: &mut [u32],
     starts: &mut [usize],
     firsts: &mut [u32],
 ) -> usize
-    requires { (is_table table.now ≡ true) × (length heads.old ≡ buckets) × Cleared heads.old × (length (spellings table.now text.now) ≤ length links.old) × (length (spellings table.now text.now) ≤ length starts.old) × (length (spellings table.now text.now) ≤ length firsts.old) × (length (spellings table.now text.now) < 4294967295) }
-    ensures { TextNoted table.now text.now starts.new firsts.new result }
+    requires { let words = length (spellings letters.now.table.now text.now) in (length heads.old ≡ buckets) × Cleared heads.old × (words ≤ length links.old) × (words ≤ length starts.old) × (words ≤ length firsts.old) × (words < 4294967295) }
+    ensures { TextNoted letters.now.table.now text.now starts.new firsts.new result }
 {
-    let mut at = scanning::word_start(table, text, 0);
+    let mut at = letters.word_start(text, 0);
     let mut place: usize = 0;
     while at < text.len() {
-        let scan = scanning::scan_word(table, text, at);
-        let bucket = scan.bucket;
-        let end = scan.end;
+        let scan = letters.scan_word(text, at);
         starts[place] = at;
-        let found = find_earlier(table, text, heads, links, starts, place, bucket);
-        let first = add_word(heads, links, bucket, place, found);
+        let found = find_earlier(letters, text, heads, links, starts, place, scan.bucket);
+        let first = add_word(heads, links, scan.bucket, place, found);
         firsts[place] = first as u32;
-        at = scanning::word_start(table, text, end);
+        at = letters.word_start(text, scan.end);
         place += 1;
     }
     place
@@ -90,15 +90,7 @@ fn count_used(counts: &[u32], size: usize) -> usize
     requires { size ≤ length counts.now }
     ensures { result ≡ length (filter_by (ltb 0) (take size counts.now)) }
 {
-    let mut used: usize = 0;
-    let mut place: usize = 0;
-    while place < size {
-        if 0 < counts[place] {
-            used += 1;
-        }
-        place += 1;
-    }
-    used
+    counts[..size].iter().filter(|count| 0 < **count).count()
 }
 
 // Counts in a clear table how often each of so many places is noted, and gives how many are.

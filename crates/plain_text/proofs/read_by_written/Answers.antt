@@ -1,5 +1,5 @@
 -- `plain_text::read_by_written` meets its contract: a word twice, then a word that is not listed, then the ranks. Assumes nothing.
-use Rattle.std.proofs.Common.{◌≡◌, ℕ, ◌≤◌, List, length, true, refl, sym, ◌∙◌, ap, arith}
+use Rattle.std.proofs.Common.{ℕ, List, refl, sym, ◌∙◌, ap, arith}
 use Rattle.base.specs.Answers.{accepted, refused, refused_at, front}
 use Rattle.base.specs.Refusals.{refusal_word_list, refusal_unlisted}
 use Rattle.lexicon.proofs.Calls.{read_text_refused, read_text_accepted}

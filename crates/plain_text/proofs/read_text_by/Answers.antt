@@ -1,9 +1,8 @@
 -- `plain_text::read_text_by` meets its contract: the sizes are tested, then how the list is written. Assumes nothing.
-use Rattle.std.proofs.Common.{◌≡◌, ℕ, ◌≤◌, length, false, refl, sym, ◌∙◌, ap}
+use Rattle.std.proofs.Common.{◌≡◌, ℕ, length, refl, sym, ◌∙◌, ap}
 use Rattle.std.proofs.lemmas.Result.{err_from_is_err_and}
 use borrow.Author.Tests.{ne_eqb}
-use Rattle.base.specs.Answers.{accepted, refused}
-use Rattle.base.specs.Outcomes.{answer_of, number_of}
+use Rattle.base.specs.Answers.{refused}
 use Rattle.base.specs.Refusals.{refusal_word_list}
 use Rattle.base.specs.declared.Answer.{Answer}
 use Rattle.lexicon.proofs.Calls.{read_text_list, read_text_refused, list_unwritten}

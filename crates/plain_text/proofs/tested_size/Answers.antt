@@ -1,8 +1,7 @@
 -- `plain_text::tested_size` meets its contract: the list is tested, then the text, then the slice. Assumes nothing.
-use Rattle.std.proofs.Common.{◌≡◌, ℕ, length, false, sym, ◌∙◌, ap, arith}
+use Rattle.std.proofs.Common.{length, sym, ◌∙◌, ap, arith}
 use Rattle.base.proofs.Tests.{inside_range, below_range, above_range}
 use Rattle.base.specs.Answers.{accepted}
-use Rattle.base.specs.Texts.{outside}
 use Rattle.dense.specs.Code.{max_vocabulary}
 use Rattle.lexicon.specs.Reading.{text_words}
 use Rattle.plain_text.proofs.Sizes.{refused_is, sizes_vocabulary, sizes_words, sizes_short, sizes_none}
