@@ -1,12 +1,12 @@
-// What every crate of the engine shares: the answer of a call, the limits of paper 01, the numbers
-// of the table of refusals (`refusal`), and the search for a rank that is outside the vocabulary.
+// What every crate of the engine shares: the answer of a call, the limits of paper 01, the table of
+// refusals (`refusal`), and the search for a rank that is outside the vocabulary.
 #![tactic(auto)]
 
 pub mod refusal;
 
 ghost use Rattle.std.specs.Prelude.{◌≡◌, min, leb};
 ghost use Rattle.base.specs.Lists.{first_where};
-ghost use Rattle.base.specs.Answers.{accepted, refused, refused_at};
+ghost use Rattle.base.specs.Answers.{accepted};
 ghost use Rattle.base.specs.Outcomes.{refused_answer, answer_of, test_answer};
 
 use refusal::Refused;
@@ -37,26 +37,6 @@ impl Answer {
         ensures { result ≡ accepted value }
     {
         Answer { refusal: 0, value }
-    }
-
-    // The answer of a refused call, with which 0 is returned.
-    pub fn refused(number: u32) -> Answer
-        ensures { result ≡ refused number }
-    {
-        Answer {
-            refusal: number,
-            value: 0,
-        }
-    }
-
-    // The answer of a refused call, with which a place or a byte offset is returned.
-    pub fn refused_at(number: u32, at: usize) -> Answer
-        ensures { result ≡ refused_at number at }
-    {
-        Answer {
-            refusal: number,
-            value: at,
-        }
     }
 }
 
