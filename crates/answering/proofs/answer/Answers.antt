@@ -5,7 +5,7 @@ use Rattle.base.specs.declared.refusal.Refusal.{Refusal}
 use Rattle.base.specs.Answers.{refused}
 use Rattle.base.specs.Outcomes.{number_of}
 use Rattle.base.proofs.Outcomes.{answer_from_refusal}
-use Rattle.words.specs.Texts.{text_of, vocabulary_of}
+use Rattle.words.specs.Texts.{vocabulary_of}
 use Rattle.questions.specs.declared.kind.Kind.TheVariants.{WordAt, OccurrencesBelow, PlaceOf, Neighbours, Phrase}
 use Rattle.questions.specs.Kinds.{number_of_kind}
 use Rattle.questions.specs.Answering.{neighbours_answer}

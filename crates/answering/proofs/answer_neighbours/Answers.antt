@@ -1,7 +1,6 @@
-use Rattle.std.proofs.Common.{◌≡◌, ◌≤◌, ℕ, sym, ap, ◌∙◌, arith}
+use Rattle.std.proofs.Common.{◌≡◌, ℕ, sym, ap, ◌∙◌, arith}
 use mir.Facts.{to_z-of_z}
 use Rattle.base.specs.Answers.{accepted}
-use Rattle.base.specs.Texts.{max_offset}
 use Rattle.words.specs.Texts.{text_of, vocabulary_of}
 use Rattle.words.proofs.Positions.{ranks_below_lem}
 use Rattle.documents.specs.Absent.{AbsentWord}

@@ -1,4 +1,4 @@
-use Rattle.std.proofs.Common.{◌≡◌, sym, ap, ◌∙◌, length, arith}
+use Rattle.std.proofs.Common.{◌≡◌, sym, ap, ◌∙◌, arith}
 use Rattle.base.proofs.Outcomes.{answer_from_refused, tested_err}
 use Rattle.index.specs.Arrays.{text_in}
 use Rattle.index.specs.Lent.{slices_of}

@@ -1,4 +1,4 @@
-use Rattle.std.proofs.Common.{◌≡◌, ℕ, List, length, true, false, sym, ap, ap₂, ◌∙◌, arith, ne_eqb}
+use Rattle.std.proofs.Common.{◌≡◌, ℕ, length, true, false, sym, ap, ap₂, ◌∙◌, arith, ne_eqb}
 use Rattle.base.specs.declared.Answer.{Answer}
 use Rattle.base.specs.declared.refusal.Refused.{Refused}
 use Rattle.base.specs.Answers.{accepted, refused, is_accepted, front}
@@ -55,8 +55,8 @@ returns-in-Err-requested c =
     let x = c.args.index.now in
     let refusal = c.in-Err-requested.refusal in
     let asked =
-        sym (ap (λ (n : ℕ). request_answer x.shape.vocabulary c.args.words.now c.args.start c.args.count n c.args.state.next (length c.args.lines.now)) (c.text_length-n.ensures.1 _ _ _ _ _ h.checked))
-        ∙ c.in-Err-requested.ensures in
+    sym (ap (λ (n : ℕ). request_answer x.shape.vocabulary c.args.words.now c.args.start c.args.count n c.args.state.next (length c.args.lines.now)) (c.text_length-n.ensures.1 _ _ _ _ _ h.checked))
+    ∙ c.in-Err-requested.ensures in
     let e = by_request (call_at st) c.args.state h.none (λ z. refusal_some refusal (sym (ap (λ (y : Answer). y.refusal) asked) ∙ z)) ∙ asked in
     let p = by st (refused (number_of refusal)) e (ne_eqb (number_of refusal) 0 (refusal_some refusal)) in
     (c.refused-in-Err-requested.ensures ∙ ap (λ (y : Refused). unwritten (refused_answer y) c.args.state) c.into.ensures ∙ p.0, p.1)

@@ -1,6 +1,5 @@
-use Rattle.std.proofs.Common.{◌≡◌, sym, ap, ◌∙◌, arith}
+use Rattle.std.proofs.Common.{sym, ap, ◌∙◌}
 use Rattle.base.specs.Answers.{refused}
-use Rattle.base.specs.Outcomes.{number_of}
 use Rattle.base.proofs.Outcomes.{refusal_some, match_err}
 use Rattle.listing.proofs.Paged.{request_phrase, request_place, request_page, request_none}
 use Rattle.listing.proofs.requested.Goals as goal

@@ -1,4 +1,4 @@
-use Rattle.std.proofs.Common.{rules, tests, ◌≡◌, ◌∙◌, refl, sym, ap, ℕ, ltb, ◌+◌, ◌-◌, ◌≤◌, ◌<◌, arith, length, take, drop, length-take-le, length-drop, true, false}
+use Rattle.std.proofs.Common.{rules, tests, ◌≡◌, ◌∙◌, refl, sym, ap, ℕ, ltb, ◌+◌, ◌-◌, ◌≤◌, ◌<◌, arith, length, take, drop, length-take-le, length-drop}
 use Rattle.std.proofs.lemmas.Iterator.{YieldsList-from_slice}
 use Rattle.std.proofs.lemmas.Iterator.Search.{any_from_yields_List}
 use Rattle.std.proofs.lemmas.Bool.{ltb-true, ltb-false}

@@ -1,4 +1,4 @@
-use Rattle.std.proofs.Common.{◌≤◌, ◌*◌, suc, ap, ◌∙◌, sym, arith}
+use Rattle.std.proofs.Common.{◌≤◌, ◌*◌, suc, ap, ◌∙◌, arith}
 use Rattle.base.specs.declared.Answer.{Answer}
 use Rattle.base.specs.Answers.{written}
 use Rattle.base.specs.Texts.{max_words}

@@ -1,5 +1,4 @@
-use Rattle.std.proofs.Common.{◌≡◌, sym, ap, ◌∙◌, arith}
-use Rattle.base.specs.Answers.{accepted}
+use Rattle.std.proofs.Common.{sym, ◌∙◌, arith}
 use Rattle.base.proofs.Outcomes.{answer_from_refused, tested_err}
 use Rattle.index.specs.Lent.{slices_of}
 use Rattle.words.proofs.Parts.{checked_most, checked_total}

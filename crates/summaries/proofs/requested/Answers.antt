@@ -1,6 +1,5 @@
-use Rattle.std.proofs.Common.{◌≡◌, ◌≤◌, sym, ap, ◌∙◌, arith}
+use Rattle.std.proofs.Common.{sym, ap, ◌∙◌, arith}
 use Rattle.base.specs.Answers.{refused}
-use Rattle.base.specs.Outcomes.{number_of}
 use Rattle.base.proofs.Outcomes.{refusal_some, match_err}
 use Rattle.summaries.proofs.Tested.{request_no_words, request_phrase, request_short, request_none}
 use Rattle.summaries.proofs.requested.Goals as goal

@@ -43,8 +43,8 @@ returns-in_err-phrase c =
     let asked = c.in_err-phrase.ensures in
     let h = goal.at.returns-in_err-phrase c in
     let r =
-        summary_asked x.s x.shape (slices_of x) c.args.documents.now c.args.words.now c.args.start c.args.count (length c.args.counts.now) (clear h.In_ok-check_in_documents).none (λ z. refusal_some refusal (sym (ap (λ (y : Answer). y.refusal) asked) ∙ z))
-        ∙ asked in
+    summary_asked x.s x.shape (slices_of x) c.args.documents.now c.args.words.now c.args.start c.args.count (length c.args.counts.now) (clear h.In_ok-check_in_documents).none (λ z. refusal_some refusal (sym (ap (λ (y : Answer). y.refusal) asked) ∙ z))
+    ∙ asked in
     (answer_from_refusal _ refusal c.from_residual-in_err-phrase.ensures.1 ∙ sym r, left h.Start _ r (refusal_some refusal))
 
 -- past the tests of what is asked for it is accepted
