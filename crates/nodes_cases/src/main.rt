@@ -65,18 +65,18 @@ fn fill_ones(stream: &mut [u8]) {
 
 // Fills a slice with words of two bytes; a last byte that is left over stays.
 fn fill_twos(stream: &mut [u8]) {
-    for (i, word) in stream.chunks_exact_mut(2).enumerate() {
+    for i in 0..stream.len() / 2 {
         let turn = i % 4096 * 31;
-        word[0] = (turn % 128) as u8;
-        word[1] = 128 + ((turn / 128 + i % 128) % 128) as u8;
+        stream[2 * i] = (turn % 128) as u8;
+        stream[2 * i + 1] = 128 + ((turn / 128 + i % 128) % 128) as u8;
     }
 }
 
 // Fills a slice with words of two bytes that are equal but for the bit that closes a word.
 fn fill_pairs(stream: &mut [u8]) {
-    for (i, word) in stream.chunks_exact_mut(2).enumerate() {
-        word[0] = (i % 128) as u8;
-        word[1] = 128 + (i % 128) as u8;
+    for i in 0..stream.len() / 2 {
+        stream[2 * i] = (i % 128) as u8;
+        stream[2 * i + 1] = 128 + (i % 128) as u8;
     }
 }
 
