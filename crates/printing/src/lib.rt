@@ -10,6 +10,8 @@ pub fn words(rt: &impl Print, text: &[u8]) -> io::Result<()> {
     rt.write_all(text)
 }
 
+// Bytes and ranks have a function each: what is written of an element is all that the functions do.
+
 // Writes each byte as a blank and two hexadecimal digits.
 pub fn bytes(rt: &impl Print, s: &[u8]) -> io::Result<()> {
     for byte in s {
