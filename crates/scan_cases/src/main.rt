@@ -11,7 +11,6 @@
 // A block has at most 2,048 bytes; what goes past them is left out.
 #![tactic(auto)]
 
-use block_scan::{Scanned, Where};
 use given::{Lines, Numbers};
 use std::alloc::{AllocError, Global};
 use std::io;
@@ -79,19 +78,11 @@ fn drawn(alloc: Global, count: usize, values: usize, seed: usize) -> Result<Vec<
     Ok(block)
 }
 
-// Where a scan found the occurrence.
-fn place_of(scanned: Scanned) -> Option<usize> {
-    match scanned.stands {
-        Where::At(at) => Some(at),
-        Where::Nowhere => None,
-    }
-}
-
 // Scans a block, and prints the position, or none, and the number of bytes read.
 fn scan(rt: &impl Print, block: &[u8], byte: u8, j: usize) -> io::Result<()> {
     let scanned = block_scan::scan(block, byte, j);
     let read = scanned.read;
-    match place_of(scanned) {
+    match scanned.stands {
         Some(at) => print!(rt; ": at {at}, {read} read"),
         None => print!(rt; ": none, {read} read"),
     }
@@ -101,7 +92,7 @@ fn scan(rt: &impl Print, block: &[u8], byte: u8, j: usize) -> io::Result<()> {
 fn scan_shortly(rt: &impl Print, block: &[u8], byte: u8, j: usize) -> io::Result<()> {
     let scanned = block_scan::scan(block, byte, j);
     let read = scanned.read;
-    match place_of(scanned) {
+    match scanned.stands {
         Some(at) => print!(rt; " {at}/{read}"),
         None => print!(rt; " -/{read}"),
     }
