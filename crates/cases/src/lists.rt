@@ -54,7 +54,9 @@ fn make_of_unique(
     numbers: &Numbers,
     size: usize,
 ) -> io::Result<()> {
-    let text = (0..size).map(|at| byte_of_unique(at)).collect::<Vec<u8>>(rt.alloc())?;
+    let text = (0..size)
+        .map(|at| byte_of_unique(at))
+        .collect::<Vec<u8>>(rt.alloc())?;
     make(rt, &text, numbers)
 }
 

@@ -47,11 +47,7 @@ pub fn summary(
 }
 
 // Reads a passage of so many words, at most 20.
-pub fn quote(
-    rt: &(impl Print + AllocGlobal),
-    state: &State,
-    numbers: &Numbers,
-) -> io::Result<()> {
+pub fn quote(rt: &(impl Print + AllocGlobal), state: &State, numbers: &Numbers) -> io::Result<()> {
     let mut ranks = vec![in rt.alloc(); 7u32; numbers.at(1).min(20)]?;
     let answer = state.small.passage(numbers.at(0), &mut ranks);
     printing::answered_with_ranks(rt, answer, &ranks)

@@ -63,12 +63,9 @@ impl State {
 
     // Lends other parts of the arrays.
     pub fn size(&mut self, numbers: &Numbers) {
-        self.small = self.small.with_sizes(
-            numbers.at(0),
-            numbers.at(1),
-            numbers.at(2),
-            numbers.at(3),
-        );
+        self.small = self
+            .small
+            .with_sizes(numbers.at(0), numbers.at(1), numbers.at(2), numbers.at(3));
     }
 
     // Gives another V, B and b.

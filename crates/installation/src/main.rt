@@ -43,9 +43,9 @@ impl fmt::Display for Outcome {
 
 // Whether a check passes, or its refusal.
 #[derive(Drop)]
-struct Check(Answer);
+struct Checked(Answer);
 
-impl fmt::Display for Check {
+impl fmt::Display for Checked {
     fn fmt<W: fmt::Write>(&self, f: &mut fmt::Formatter<W>) -> fmt::Result {
         let refusal = self.0.refusal;
         if refusal == 0 {
@@ -88,14 +88,8 @@ fn line(
 }
 
 // Checks the arrays with these bytes and superblock counters.
-fn check(bytes: &[u8], counters: &[u32]) -> Check {
-    Check(checking::check(
-        shape_of(130, 8, 1),
-        &LENGTHS,
-        bytes,
-        counters,
-        &BLOCKS,
-    ))
+fn check(bytes: &[u8], counters: &[u32]) -> Checked {
+    Checked(checking::check(shape_of(130, 8, 1), &LENGTHS, bytes, counters, &BLOCKS))
 }
 
 // Loads the arrays and checks them, whole and with one element changed.
@@ -257,7 +251,9 @@ fn list_places(rt: &impl Print) -> io::Result<()> {
     small.page(page.listing, &[], 0, 0, &mut last);
     let lines = Numbers(&lines);
     let last = Numbers(&last);
-    print!(rt; "Before a word is typed, the phrase of no words is listed there on pages of four and ")?;
+    print!(rt;
+        "Before a word is typed, the phrase of no words is listed there on pages of four and "
+    )?;
     print!(rt; "one: {lines}, {last} ")?;
     print!(rt; "(not 0 1 2 3, 4: a place is left out, or the end of the text is none)\n")?;
     line(

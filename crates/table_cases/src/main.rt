@@ -111,8 +111,12 @@ fn text(
 ) -> io::Result<()> {
     let text = given::spelled_by(rt.alloc(), line, 3)?;
     let mut ranks = vec![in rt.alloc(); 9u32; numbers.at(1).min(20)]?;
-    let answer =
-        lent_tables::read_text_with(state.entries(numbers), &state.list, &text, &mut ranks);
+    let answer = lent_tables::read_text_with(
+        state.entries(numbers),
+        &state.list,
+        &text,
+        &mut ranks,
+    );
     printing::answered_with_ranks(rt, answer, &ranks)
 }
 
@@ -139,8 +143,7 @@ fn from(
     let text = given::spelled_by(rt.alloc(), line, 4)?;
     let mut list = vec![in rt.alloc(); 9u8; numbers.at(1).min(20)]?;
     let mut ranks = vec![in rt.alloc(); 9u32; numbers.at(2).min(20)]?;
-    let made =
-        lent_tables::make_list_with(state.entries(numbers), &text, &mut list, &mut ranks);
+    let made = lent_tables::make_list_with(state.entries(numbers), &text, &mut list, &mut ranks);
     printing::answered_with_list(rt, made.answer, made.bytes, made.words, &list, &ranks)
 }
 
