@@ -35,38 +35,90 @@
 // elements are printed.
 #![tactic(auto)]
 
+mod command;
 mod lists;
 mod shown;
 mod state;
 
+use command::Command;
+use given::{Lines, Numbers};
+use questions::Question;
 use state::State;
 use std::io;
+use std::io::Read;
+
+// The most bytes of the input; what goes past them is left out.
+const MOST_INPUT: u64 = 65536;
+
+// Does what a line asks for.
+fn obey(
+    rt: &(impl Print + AllocGlobal),
+    state: &mut State,
+    command: Command,
+    line: &[u8],
+    numbers: &Numbers,
+) -> io::Result<()> {
+    let x = numbers.at(0);
+    let y = numbers.at(1);
+    let w = given::narrow(x);
+    let v = given::narrow(y);
+    match command {
+        Command::Encode => shown::encode(rt, numbers)?,
+        Command::Decode => shown::decode(rt, numbers)?,
+        Command::Needs => shown::needs(rt, numbers)?,
+        Command::Room => shown::room(rt, numbers)?,
+        Command::Handed => shown::handed(rt, numbers)?,
+        Command::Build => state.build(rt, numbers)?,
+        Command::Sizes => state.size(numbers),
+        Command::Values => state.reshape(numbers),
+        Command::Modify => state.modify(numbers),
+        Command::Check => printing::answered(rt, state.small.check())?,
+        Command::Words => state.lend(rt.alloc(), numbers)?,
+        Command::WordAt => shown::ask(rt, state, Question::word_at(x))?,
+        Command::OccurrencesBelow => shown::ask(rt, state, Question::occurrences_below(w, y))?,
+        Command::PlaceOf => shown::ask(rt, state, Question::place_of(w, y))?,
+        Command::Neighbours => {
+            shown::ask(rt, state, Question::neighbours(w, v, numbers.offset(2)))?
+        }
+        Command::Phrase => shown::ask(rt, state, Question::phrase(x, y))?,
+        Command::Ask => shown::ask(rt, state, shown::any_question(numbers))?,
+        Command::Group => state.group(rt.alloc(), numbers)?,
+        Command::Join => state.join(),
+        Command::Yield => shown::summary(rt, state, numbers)?,
+        Command::Quote => shown::quote(rt, state, numbers)?,
+        Command::Open => state.open(numbers),
+        Command::Page => state.turn(rt, numbers)?,
+        Command::List => state.take_list(rt.alloc(), line)?,
+        Command::Text => shown::text(rt, state, line, numbers)?,
+        Command::Known => shown::known(rt, state, line)?,
+        Command::From => lists::from(rt, line, numbers)?,
+        Command::Iterate => lists::iterate(rt, line, numbers)?,
+        Command::Unique => lists::unique(rt, numbers)?,
+    }
+    Ok(())
+}
 
 // Runs the case of a line.
-fn run_line(rt: &impl Print, state: State, line: &[u8]) -> io::Result<State> {
-    let numbers = given::numbers_of(line);
+fn run_line(rt: &(impl Print + AllocGlobal), state: &mut State, line: &[u8]) -> io::Result<()> {
+    let numbers = Numbers::of(rt.alloc(), line)?;
     printing::words(rt, line)?;
-    shown::show(rt, state, line, numbers)?;
-    lists::show(rt, line, numbers)?;
-    let next = state.changed(rt, line, numbers)?;
-    printing::words(rt, b"\n")?;
-    Ok(next)
+    if let Some(command) = Command::of(line) {
+        obey(rt, state, command, line, &numbers)?;
+    }
+    print!(rt; "\n")
 }
 
 // Runs the cases of all lines, each over the state that the one before it left.
-fn run(rt: &impl Print, input: &[u8]) -> io::Result<()> {
-    let mut state = State::first();
-    let mut at: usize = 0;
-    while at < input.len() {
-        let end = given::line_end(input, at);
-        state = run_line(rt, state, &input[at..end])?;
-        at = end + 1;
+fn run(rt: &(impl Print + AllocGlobal), input: &[u8]) -> io::Result<()> {
+    let mut state = State::first(rt.alloc());
+    for line in Lines::of(input) {
+        run_line(rt, &mut state, line)?;
     }
     Ok(())
 }
 
 fn main(rt: HostRuntime) -> io::Result<()> {
-    let mut input = [0u8; 65536];
-    let size = reading::read_full(&mut rt.reader(), &mut input)?;
-    run(&rt, &input[..size])
+    let mut input = Vec::new(rt.alloc());
+    rt.reader().take(MOST_INPUT).read_to_end(&mut input)?;
+    run(&rt, &input)
 }

@@ -1,298 +1,164 @@
-// The calls that leave the state as it is.
+// The calls that leave the state as it is, each with what came of it printed.
 use crate::state::State;
-use base::Answer;
 use given::Numbers;
 use measuring::IndexSizes;
 use questions::Question;
 use small_indexes::shape_of;
+use std::alloc::{AllocError, Global};
 use std::io;
 
-// The answer to a question of the index and the lent words, with the document starts where calls
-// bring them.
-fn answer(state: State, question: Question) -> Answer {
-    let small = state.small;
-    let words = state.words;
-    if !state.brought {
-        return small.ask(small_indexes::front(&words, state.count), question);
-    }
-    let documents = state.documents;
-    small.ask_in_documents(
-        small_indexes::front(&documents, state.starts),
-        small_indexes::front(&words, state.count),
-        question,
-    )
-}
-
-// Asks a question.
-fn ask(rt: &impl Print, state: State, question: Question) -> io::Result<()> {
-    printing::answered(rt, answer(state, question))
-}
-
-// Counts a phrase in each document into a slice.
-fn count(rt: &impl Print, state: State, numbers: Numbers, counts: &mut [u32]) -> io::Result<()> {
-    let small = state.small;
-    let words = state.words;
-    let documents = state.documents;
-    let answer = small.summary(
-        small_indexes::front(&documents, state.starts),
-        small_indexes::front(&words, state.count),
-        numbers.values[0],
-        numbers.values[1],
-        counts,
-    );
-    printing::answered_with_ranks(rt, answer, counts)
-}
-
-// Counts a phrase in each document into so many elements, at most 20.
-fn summary(rt: &impl Print, state: State, numbers: Numbers) -> io::Result<()> {
-    let mut counts = [9u32; 20];
-    let size = base::least(numbers.values[2], 20);
-    count(rt, state, numbers, &mut counts[..size])
-}
-
-// The question of kind 1 to 5 by its maker.
-fn ask_kind(rt: &impl Print, state: State, kind: u8, numbers: Numbers) -> io::Result<()> {
-    let x = numbers.values[0];
-    let y = numbers.values[1];
-    let w = given::narrow(x);
-    let v = given::narrow(y);
-    let question = match kind {
-        b'1' => Question::word_at(x),
-        b'2' => Question::occurrences_below(w, y),
-        b'3' => Question::place_of(w, y),
-        b'4' => Question::neighbours(w, v, numbers.offset(2)),
-        _ => Question::phrase(x, y),
+// Asks a question of the index and the lent words, with the document starts where calls bring them.
+pub fn ask(rt: &impl Print, state: &State, question: Question) -> io::Result<()> {
+    let answer = match state.starts() {
+        Some(starts) => state.small.ask_in_documents(starts, &state.words, question),
+        None => state.small.ask(&state.words, question),
     };
-    ask(rt, state, question)
+    printing::answered(rt, answer)
 }
 
 // A question with every field given.
-fn ask_any(rt: &impl Print, state: State, numbers: Numbers) -> io::Result<()> {
-    let question = Question {
-        kind: given::narrow(numbers.values[0]),
-        w: given::narrow(numbers.values[1]),
-        v: given::narrow(numbers.values[2]),
+pub fn any_question(numbers: &Numbers) -> Question {
+    Question {
+        kind: given::narrow(numbers.at(0)),
+        w: given::narrow(numbers.at(1)),
+        v: given::narrow(numbers.at(2)),
         d: numbers.offset(3),
-        p: numbers.values[4],
-        start: numbers.values[5],
-        length: numbers.values[6],
-    };
-    ask(rt, state, question)
+        p: numbers.at(4),
+        start: numbers.at(5),
+        length: numbers.at(6),
+    }
 }
 
-// Checks the index.
-fn check(rt: &impl Print, state: State) -> io::Result<()> {
-    let small = state.small;
-    printing::answered(rt, small.check())
-}
-
-// Reads a passage into a slice.
-fn read(rt: &impl Print, state: State, place: usize, ranks: &mut [u32]) -> io::Result<()> {
-    let small = state.small;
-    let answer = small.passage(place, ranks);
-    printing::answered_with_ranks(rt, answer, ranks)
+// Counts a phrase in each document into so many elements, at most 20.
+pub fn summary(
+    rt: &(impl Print + AllocGlobal),
+    state: &State,
+    numbers: &Numbers,
+) -> io::Result<()> {
+    let mut counts = vec![in rt.alloc(); 9u32; numbers.at(2).min(20)]?;
+    let answer = state.small.summary(
+        &state.documents,
+        &state.words,
+        numbers.at(0),
+        numbers.at(1),
+        &mut counts,
+    );
+    printing::answered_with_ranks(rt, answer, &counts)
 }
 
 // Reads a passage of so many words, at most 20.
-fn quote(rt: &impl Print, state: State, numbers: Numbers) -> io::Result<()> {
-    let mut ranks = [7u32; 20];
-    let count = base::least(numbers.values[1], 20);
-    read(rt, state, numbers.values[0], &mut ranks[..count])
+pub fn quote(rt: &(impl Print + AllocGlobal), state: &State, numbers: &Numbers) -> io::Result<()> {
+    let mut ranks = vec![in rt.alloc(); 7u32; numbers.at(1).min(20)]?;
+    let answer = state.small.passage(numbers.at(0), &mut ranks);
+    printing::answered_with_ranks(rt, answer, &ranks)
 }
 
 // Measures a text.
-fn needs(rt: &impl Print, numbers: Numbers) -> io::Result<()> {
-    let text = given::ranks_of(numbers, 3);
-    let shape = shape_of(numbers.values[0], numbers.values[1], numbers.values[2]);
-    let measured = measuring::measure(shape, small_indexes::front(&text.values, text.count));
-    let sizes = measured.sizes;
+pub fn needs(rt: &(impl Print + AllocGlobal), numbers: &Numbers) -> io::Result<()> {
+    let text = numbers.ranks(rt.alloc(), 3)?;
+    let shape = shape_of(numbers.at(0), numbers.at(1), numbers.at(2));
+    let measured = measuring::measure(shape, &text);
+    let IndexSizes {
+        nodes,
+        bytes,
+        superblock_rows,
+        block_rows,
+    } = measured.sizes;
     printing::answered(rt, measured.answer)?;
-    printing::words(rt, b"; ")?;
-    printing::four_numbers(
-        rt,
-        sizes.nodes,
-        sizes.bytes,
-        sizes.superblock_rows,
-        sizes.block_rows,
-    )
+    print!(rt; "; {nodes} {bytes} {superblock_rows} {block_rows}")
 }
 
-// Builds the index of a text in slices.
-fn build_in(
-    rt: &impl Print,
-    numbers: Numbers,
-    n: &mut [u32],
-    l: &mut [u8],
-    u: &mut [u32],
-    k: &mut [u16],
-) -> io::Result<()> {
-    let text = given::ranks_of(numbers, 7);
-    let shape = shape_of(numbers.values[4], numbers.values[5], numbers.values[6]);
-    let answer = building::build(
-        shape,
-        small_indexes::front(&text.values, text.count),
-        n,
-        l,
-        u,
-        k,
-    );
-    printing::answered_with_bytes(rt, answer, l)
+// The four slices in which an index is built, which hold nothing but 7.
+#[derive(Drop)]
+struct Slices {
+    lengths: Vec<u32>,
+    bytes: Vec<u8>,
+    superblocks: Vec<u32>,
+    blocks: Vec<u16>,
 }
 
-// Builds the index of a text in slices, with four sizes that are handed back.
-fn build_sized_in(
-    rt: &impl Print,
-    numbers: Numbers,
-    n: &mut [u32],
-    l: &mut [u8],
-    u: &mut [u32],
-    k: &mut [u16],
-) -> io::Result<()> {
-    let text = given::ranks_of(numbers, 11);
-    let shape = shape_of(numbers.values[8], numbers.values[9], numbers.values[10]);
-    let sizes = IndexSizes {
-        nodes: numbers.values[4],
-        bytes: numbers.values[5],
-        superblock_rows: numbers.values[6],
-        block_rows: numbers.values[7],
-    };
-    let answer = building::build_sized(
-        shape,
-        sizes,
-        small_indexes::front(&text.values, text.count),
-        n,
-        l,
-        u,
-        k,
-    );
-    printing::answered_with_bytes(rt, answer, l)?;
-    printing::words(rt, b";")?;
-    printing::ranks(rt, n)
-}
-
-// Builds the index of a text in slices, with sizes that are handed back or without.
-fn build_either(
-    rt: &impl Print,
-    numbers: Numbers,
-    sized: bool,
-    n: &mut [u32],
-    l: &mut [u8],
-    u: &mut [u32],
-    k: &mut [u16],
-) -> io::Result<()> {
-    if sized {
-        build_sized_in(rt, numbers, n, l, u, k)
-    } else {
-        build_in(rt, numbers, n, l, u, k)
+impl Slices {
+    // Slices of the sizes that the first four numbers of a line give, at most 768 elements and 20 bytes.
+    fn of(alloc: Global, numbers: &Numbers) -> Result<Slices, AllocError> {
+        Ok(Slices {
+            lengths: vec![in alloc; 7; numbers.at(0).min(768)]?,
+            bytes: vec![in alloc; 7; numbers.at(1).min(20)]?,
+            superblocks: vec![in alloc; 7; numbers.at(2).min(768)]?,
+            blocks: vec![in alloc; 7; numbers.at(3).min(768)]?,
+        })
     }
 }
 
-// Builds the index of a text in slices of these sizes, at most 768 elements and 20 bytes.
-fn room(rt: &impl Print, numbers: Numbers, sized: bool) -> io::Result<()> {
-    let mut lengths = [7u32; 768];
-    let mut bytes = [7u8; 20];
-    let mut superblocks = [7u32; 768];
-    let mut blocks = [7u16; 768];
-    let n = base::least(numbers.values[0], 768);
-    let l = base::least(numbers.values[1], 20);
-    let u = base::least(numbers.values[2], 768);
-    let k = base::least(numbers.values[3], 768);
-    build_either(
-        rt,
-        numbers,
-        sized,
-        &mut lengths[..n],
-        &mut bytes[..l],
-        &mut superblocks[..u],
-        &mut blocks[..k],
-    )
+// Builds the index of a text in slices of these sizes.
+pub fn room(rt: &(impl Print + AllocGlobal), numbers: &Numbers) -> io::Result<()> {
+    let mut slices = Slices::of(rt.alloc(), numbers)?;
+    let text = numbers.ranks(rt.alloc(), 7)?;
+    let answer = building::build(
+        shape_of(numbers.at(4), numbers.at(5), numbers.at(6)),
+        &text,
+        &mut slices.lengths,
+        &mut slices.bytes,
+        &mut slices.superblocks,
+        &mut slices.blocks,
+    );
+    printing::answered_with_bytes(rt, answer, &slices.bytes)
 }
 
-// Writes a text as a stream into a slice.
-fn write_stream(rt: &impl Print, numbers: Numbers, stream: &mut [u8]) -> io::Result<()> {
-    let text = given::ranks_of(numbers, 2);
-    let ranks = small_indexes::front(&text.values, text.count);
-    let answer = dense::write_stream(numbers.values[1], ranks, stream);
-    printing::answered_with_bytes(rt, answer, stream)
+// Builds the index of a text in slices of these sizes, with four sizes that are handed back.
+pub fn handed(rt: &(impl Print + AllocGlobal), numbers: &Numbers) -> io::Result<()> {
+    let mut slices = Slices::of(rt.alloc(), numbers)?;
+    let text = numbers.ranks(rt.alloc(), 11)?;
+    let sizes = IndexSizes {
+        nodes: numbers.at(4),
+        bytes: numbers.at(5),
+        superblock_rows: numbers.at(6),
+        block_rows: numbers.at(7),
+    };
+    let answer = building::build_sized(
+        shape_of(numbers.at(8), numbers.at(9), numbers.at(10)),
+        sizes,
+        &text,
+        &mut slices.lengths,
+        &mut slices.bytes,
+        &mut slices.superblocks,
+        &mut slices.blocks,
+    );
+    printing::answered_with_bytes(rt, answer, &slices.bytes)?;
+    print!(rt; ";")?;
+    printing::ranks(rt, &slices.lengths)
 }
 
 // Writes a text as a stream of so many bytes, at most 20.
-fn encode(rt: &impl Print, numbers: Numbers) -> io::Result<()> {
-    let mut stream = [7u8; 20];
-    let size = base::least(numbers.values[0], 20);
-    write_stream(rt, numbers, &mut stream[..size])
-}
-
-// Reads a stream into a slice.
-fn read_stream(rt: &impl Print, stream: &[u8], text: &mut [u32]) -> io::Result<()> {
-    let answer = dense::read_stream(stream, text);
-    printing::answered_with_ranks(rt, answer, text)
+pub fn encode(rt: &(impl Print + AllocGlobal), numbers: &Numbers) -> io::Result<()> {
+    let text = numbers.ranks(rt.alloc(), 2)?;
+    let mut stream = vec![in rt.alloc(); 7u8; numbers.at(0).min(20)]?;
+    let answer = dense::write_stream(numbers.at(1), &text, &mut stream);
+    printing::answered_with_bytes(rt, answer, &stream)
 }
 
 // Reads a stream into so many ranks, at most 20.
-fn decode(rt: &impl Print, numbers: Numbers) -> io::Result<()> {
-    let stream = given::bytes_of(numbers, 1);
-    let mut text = [7u32; 20];
-    let size = base::least(numbers.values[0], 20);
-    read_stream(
-        rt,
-        small_indexes::front_bytes(&stream.bytes, stream.count),
-        &mut text[..size],
-    )
+pub fn decode(rt: &(impl Print + AllocGlobal), numbers: &Numbers) -> io::Result<()> {
+    let stream = numbers.bytes(rt.alloc(), 1)?;
+    let mut text = vec![in rt.alloc(); 7u32; numbers.at(0).min(20)]?;
+    let answer = dense::read_stream(&stream, &mut text);
+    printing::answered_with_ranks(rt, answer, &text)
 }
 
-// Reads plain text through the word list into a slice.
-fn read_text(rt: &impl Print, state: State, text: &[u8], ranks: &mut [u32]) -> io::Result<()> {
-    let list = state.list;
-    let answer = plain_text::read_text(small_indexes::front_bytes(&list, state.size), text, ranks);
-    printing::answered_with_ranks(rt, answer, ranks)
-}
-
-// Reads the plain text of a line into so many ranks, at most 20.
-fn text(rt: &impl Print, state: State, line: &[u8], numbers: Numbers) -> io::Result<()> {
-    let spelled = given::spelled_by(line, 2);
-    let mut ranks = [9u32; 20];
-    let size = base::least(numbers.values[0], 20);
-    read_text(
-        rt,
-        state,
-        small_indexes::front_bytes(&spelled.bytes, spelled.count),
-        &mut ranks[..size],
-    )
+// Reads the plain text of a line through the word list into so many ranks, at most 20.
+pub fn text(
+    rt: &(impl Print + AllocGlobal),
+    state: &State,
+    line: &[u8],
+    numbers: &Numbers,
+) -> io::Result<()> {
+    let text = given::spelled_by(rt.alloc(), line, 2)?;
+    let mut ranks = vec![in rt.alloc(); 9u32; numbers.at(0).min(20)]?;
+    let answer = plain_text::read_text(&state.list, &text, &mut ranks);
+    printing::answered_with_ranks(rt, answer, &ranks)
 }
 
 // Finds the word that a line spells in the word list.
-fn known(rt: &impl Print, state: State, line: &[u8]) -> io::Result<()> {
-    let list = state.list;
-    let spelled = given::spelled_by(line, 1);
-    printing::answered(
-        rt,
-        finding::find_word(
-            small_indexes::front_bytes(&list, state.size),
-            small_indexes::front_bytes(&spelled.bytes, spelled.count),
-        ),
-    )
-}
-
-// Makes the call of a line, if it is one of these, and prints what came of it.
-pub fn show(rt: &impl Print, state: State, line: &[u8], numbers: Numbers) -> io::Result<()> {
-    if line.len() == 0 {
-        return Ok(());
-    }
-    let first = line[0];
-    match first {
-        b'1'..=b'5' => ask_kind(rt, state, first, numbers),
-        b'a' => ask_any(rt, state, numbers),
-        b'c' => check(rt, state),
-        b'q' => quote(rt, state, numbers),
-        b'y' => summary(rt, state, numbers),
-        b'n' => needs(rt, numbers),
-        b'r' => room(rt, numbers, false),
-        b'h' => room(rt, numbers, true),
-        b'e' => encode(rt, numbers),
-        b'd' => decode(rt, numbers),
-        b't' => text(rt, state, line, numbers),
-        b'k' => known(rt, state, line),
-        _ => Ok(()),
-    }
+pub fn known(rt: &(impl Print + AllocGlobal), state: &State, line: &[u8]) -> io::Result<()> {
+    let word = given::spelled_by(rt.alloc(), line, 1)?;
+    printing::answered(rt, finding::find_word(&state.list, &word))
 }

@@ -89,6 +89,7 @@ fn list_stream(stream: &[u8], output: &mut [u8]) -> Result<usize, Refusal>
     }
     let mut text = [0u32; MAX_WORDS];
     let read = dense::read_stream(stream, &mut text);
+    // `read_stream` is an entry, which answers with the refusal's number.
     if read.refusal == Refusal::Stream.number() {
         return Err(Refusal::Stream);
     }

@@ -11,68 +11,47 @@
 // A block has at most 2,048 bytes; what goes past them is left out.
 #![tactic(auto)]
 
-use block_scan::Where;
-use given::Numbers;
+use given::{Lines, Numbers};
+use std::alloc::{AllocError, Global};
 use std::io;
+use std::io::Read;
 
 // The most bytes of a block.
 const MOST_BYTES: usize = 2048;
 
-// The block that is scanned: bytes, and how many there are.
+// The most bytes of the input; what goes past them is left out.
+const MOST_INPUT: u64 = 32768;
+
+// What a line asks for.
 #[derive(Clone, Copy)]
-struct Block {
-    bytes: [u8; MOST_BYTES],
-    size: usize,
+enum Command {
+    Block,
+    Drawn,
+    Scan,
+    Each,
 }
 
-impl Block {
-    // No bytes.
-    fn empty() -> Block {
-        Block {
-            bytes: [0; MOST_BYTES],
-            size: 0,
+impl Command {
+    // What a line asks for, by the character that it begins with; nothing where that is no command.
+    fn of(line: &[u8]) -> Option<Command> {
+        match line.first()? {
+            b'b' => Some(Command::Block),
+            b'd' => Some(Command::Drawn),
+            b's' => Some(Command::Scan),
+            b'e' => Some(Command::Each),
+            _ => None,
         }
-    }
-
-    // The block with a byte behind it.
-    fn put(mut self, byte: u8) -> Block {
-        let at = self.size;
-        if at < MOST_BYTES {
-            self.bytes[at] = byte;
-            self.size = at + 1;
-        }
-        self
-    }
-
-    // The block with so many equal bytes behind it.
-    fn with_run(self, byte: u8, count: usize) -> Block {
-        let mut block = self;
-        let mut left = base::least(count, MOST_BYTES);
-        while 0 < left {
-            block = block.put(byte);
-            left -= 1;
-        }
-        block
-    }
-
-    // The block with the run behind it that numbers i and i + 1 of a line give, if there are any.
-    fn with_numbers(self, numbers: Numbers, i: usize) -> Block {
-        if base::least(numbers.count, given::MOST - 1) <= i {
-            return self;
-        }
-        self.with_run((numbers.values[i] % 256) as u8, numbers.values[i + 1])
     }
 }
 
-// The block of the runs of a line.
-fn runs_of(numbers: Numbers) -> Block {
-    let mut block = Block::empty();
-    let mut i: usize = 0;
-    while i < given::MOST {
-        block = block.with_numbers(numbers, i);
-        i += 2;
+// The block of the runs of a line: each pair of numbers is a byte, and how often it stands.
+fn runs_of(alloc: Global, numbers: &Numbers) -> Result<Vec<u8>, AllocError> {
+    let mut block = Vec::new(alloc);
+    for run in numbers.values().chunks_exact(2) {
+        let size = block.len().saturating_add(run[1]).min(MOST_BYTES);
+        block.resize(size, given::low_byte(run[0]))?;
     }
-    block
+    Ok(block)
 }
 
 // The state after another one, of which a byte is drawn.
@@ -85,135 +64,90 @@ fn byte_of(state: usize, values: usize) -> u8 {
     if values == 0 {
         return 0;
     }
-    (state / 65536 % values % 256) as u8
+    given::low_byte(state / 65536 % values)
 }
 
 // The block of so many bytes that are drawn from so many values.
-fn drawn(count: usize, values: usize, seed: usize) -> Block {
-    let mut block = Block::empty();
+fn drawn(alloc: Global, count: usize, values: usize, seed: usize) -> Result<Vec<u8>, AllocError> {
+    let mut block = Vec::new(alloc);
     let mut state = seed;
-    let mut left = base::least(count, MOST_BYTES);
-    while 0 < left {
+    for _ in 0..count.min(MOST_BYTES) {
         state = drawn_after(state);
-        block = block.put(byte_of(state, values));
-        left -= 1;
+        block.push(byte_of(state, values))?;
     }
-    block
-}
-
-// How often a byte stands in a block.
-fn count_of(block: &[u8], byte: u8) -> usize {
-    let mut count: usize = 0;
-    let mut i = 0;
-    while i < block.len() {
-        let here = block[i] == byte;
-        i += 1;
-        if here {
-            count += 1;
-        }
-    }
-    count
+    Ok(block)
 }
 
 // Scans a block, and prints the position, or none, and the number of bytes read.
 fn scan(rt: &impl Print, block: &[u8], byte: u8, j: usize) -> io::Result<()> {
     let scanned = block_scan::scan(block, byte, j);
-    let stands = scanned.stands;
-    match stands {
-        Where::At(at) => {
-            printing::words(rt, b": at ")?;
-            printing::number(rt, at)?;
-        }
-        Where::Nowhere => printing::words(rt, b": none")?,
+    let read = scanned.read;
+    match scanned.stands {
+        Some(at) => print!(rt; ": at {at}, {read} read"),
+        None => print!(rt; ": none, {read} read"),
     }
-    printing::words(rt, b", ")?;
-    printing::number(rt, scanned.read)?;
-    printing::words(rt, b" read")
 }
 
 // Scans a block, and prints the position, or a dash, and the number of bytes read, shortly.
 fn scan_shortly(rt: &impl Print, block: &[u8], byte: u8, j: usize) -> io::Result<()> {
     let scanned = block_scan::scan(block, byte, j);
-    let stands = scanned.stands;
-    printing::words(rt, b" ")?;
-    match stands {
-        Where::At(at) => printing::number(rt, at)?,
-        Where::Nowhere => printing::words(rt, b"-")?,
+    let read = scanned.read;
+    match scanned.stands {
+        Some(at) => print!(rt; " {at}/{read}"),
+        None => print!(rt; " -/{read}"),
     }
-    printing::words(rt, b"/")?;
-    printing::number(rt, scanned.read)
 }
 
 // Scans a block for each occurrence of a byte, and for two more.
-fn each(rt: &impl Print, block: &[u8], byte: u8) -> io::Result<()> {
-    printing::words(rt, b":")?;
-    let end = base::least(count_of(block, byte), MOST_BYTES) + 2;
-    let mut j: usize = 0;
-    while j < end {
+fn scan_each(rt: &impl Print, block: &[u8], byte: u8) -> io::Result<()> {
+    let count = block.iter().filter(|other| **other == byte).count();
+    print!(rt; ":")?;
+    for j in 0..count.saturating_add(2) {
         scan_shortly(rt, block, byte, j)?;
-        j += 1;
     }
     Ok(())
 }
 
-// Scans the block in front of some bytes as a line says, if it says so, and prints what came of it.
-fn show(
-    rt: &impl Print,
-    bytes: &[u8],
-    size: usize,
-    line: &[u8],
-    numbers: Numbers,
+// Does what a line asks for.
+fn obey(
+    rt: &(impl Print + AllocGlobal),
+    block: &mut Vec<u8>,
+    command: Command,
+    numbers: &Numbers,
 ) -> io::Result<()> {
-    if line.len() == 0 {
-        return Ok(());
+    let byte = given::low_byte(numbers.at(0));
+    match command {
+        Command::Block => *block = runs_of(rt.alloc(), numbers)?,
+        Command::Drawn => {
+            *block = drawn(rt.alloc(), numbers.at(0), numbers.at(1), numbers.at(2))?
+        }
+        Command::Scan => scan(rt, block, byte, numbers.at(1))?,
+        Command::Each => scan_each(rt, block, byte)?,
     }
-    let end = base::least(size, bytes.len());
-    let block = &bytes[..end];
-    let byte = (numbers.values[0] % 256) as u8;
-    match line[0] {
-        b's' => scan(rt, block, byte, numbers.values[1]),
-        b'e' => each(rt, block, byte),
-        _ => Ok(()),
-    }
-}
-
-// The block after a line.
-fn changed(block: Block, line: &[u8], numbers: Numbers) -> Block {
-    if line.len() == 0 {
-        return block;
-    }
-    match line[0] {
-        b'b' => runs_of(numbers),
-        b'd' => drawn(numbers.values[0], numbers.values[1], numbers.values[2]),
-        _ => block,
-    }
+    Ok(())
 }
 
 // Runs the case of a line.
-fn run_line(rt: &impl Print, block: Block, line: &[u8]) -> io::Result<Block> {
-    let numbers = given::numbers_of(line);
+fn run_line(rt: &(impl Print + AllocGlobal), block: &mut Vec<u8>, line: &[u8]) -> io::Result<()> {
+    let numbers = Numbers::of(rt.alloc(), line)?;
     printing::words(rt, line)?;
-    let bytes = block.bytes;
-    show(rt, &bytes, block.size, line, numbers)?;
-    let next = changed(block, line, numbers);
-    printing::words(rt, b"\n")?;
-    Ok(next)
+    if let Some(command) = Command::of(line) {
+        obey(rt, block, command, &numbers)?;
+    }
+    print!(rt; "\n")
 }
 
 // Runs the cases of all lines, each over the block that the one before it left.
-fn run(rt: &impl Print, input: &[u8]) -> io::Result<()> {
-    let mut block = Block::empty();
-    let mut at: usize = 0;
-    while at < input.len() {
-        let end = given::line_end(input, at);
-        block = run_line(rt, block, &input[at..end])?;
-        at = end + 1;
+fn run(rt: &(impl Print + AllocGlobal), input: &[u8]) -> io::Result<()> {
+    let mut block = Vec::new(rt.alloc());
+    for line in Lines::of(input) {
+        run_line(rt, &mut block, line)?;
     }
     Ok(())
 }
 
 fn main(rt: HostRuntime) -> io::Result<()> {
-    let mut input = [0u8; 32768];
-    let size = reading::read_full(&mut rt.reader(), &mut input)?;
-    run(&rt, &input[..size])
+    let mut input = Vec::new(rt.alloc());
+    rt.reader().take(MOST_INPUT).read_to_end(&mut input)?;
+    run(&rt, &input)
 }

@@ -17,201 +17,178 @@
 // Slices that are filled held nothing but 9 before, and have at most 20 elements.
 #![tactic(auto)]
 
-use given::Numbers;
-use small_indexes::front_bytes;
+use given::{Lines, Numbers};
+use std::alloc::{AllocError, Global};
 use std::io;
+use std::io::Read;
 
 // The most entries of a table: one more than it must have.
 const MOST_ENTRIES: usize = 257;
 
-// The table that calls are lent, and the word list.
+// The most bytes of the input; what goes past them is left out.
+const MOST_INPUT: u64 = 16384;
+
+// The call or the change that a line asks for.
 #[derive(Clone, Copy)]
+enum Command {
+    BuiltIn,
+    Zeros,
+    Modify,
+    Check,
+    List,
+    Text,
+    Known,
+    From,
+}
+
+impl Command {
+    // What a line asks for, by the character that it begins with; nothing where that is no command.
+    fn of(line: &[u8]) -> Option<Command> {
+        match line.first()? {
+            b'b' => Some(Command::BuiltIn),
+            b'z' => Some(Command::Zeros),
+            b'm' => Some(Command::Modify),
+            b'c' => Some(Command::Check),
+            b'l' => Some(Command::List),
+            b't' => Some(Command::Text),
+            b'k' => Some(Command::Known),
+            b'f' => Some(Command::From),
+            _ => None,
+        }
+    }
+}
+
+// The table that calls are lent, and the word list.
+#[derive(Drop)]
 struct State {
     table: [u8; MOST_ENTRIES],
-    list: [u8; 64],
-    size: usize,
+    list: Vec<u8>,
 }
 
 // The built-in table, with a 0 behind its last entry.
 fn built_in() -> [u8; MOST_ENTRIES] {
-    let letters = lexicon::letter_table();
     let mut table = [0u8; MOST_ENTRIES];
-    let mut i: usize = 0;
-    while i < 256 {
-        table[i] = letters[i];
-        i += 1;
-    }
+    table[..256].copy_from_slice(&lexicon::letter_table());
     table
 }
 
 impl State {
     // The built-in table, and no list.
-    fn first() -> State {
+    fn first(alloc: Global) -> State {
         State {
             table: built_in(),
-            list: [0; 64],
-            size: 0,
+            list: Vec::new(alloc),
         }
     }
 
-    // Lends another table.
-    fn with_table(mut self, table: [u8; MOST_ENTRIES]) -> State {
-        self.table = table;
-        self
+    // The first entries of the table, as many as a number of the line says.
+    fn entries(&self, numbers: &Numbers) -> &[u8] {
+        let count = numbers.at(0).min(MOST_ENTRIES);
+        &self.table[..count]
     }
 
     // Changes an entry of the table.
-    fn modified(mut self, numbers: Numbers) -> State {
-        let i = numbers.values[0];
-        if i < MOST_ENTRIES {
-            self.table[i] = (numbers.values[1] % 256) as u8;
+    fn modify(&mut self, numbers: &Numbers) {
+        if let Some(entry) = self.table.get_mut(numbers.at(0)) {
+            *entry = given::low_byte(numbers.at(1));
         }
-        self
     }
 
     // Takes another word list.
-    fn listed(mut self, line: &[u8]) -> State {
-        let list = given::spelled_by(line, 1);
-        let bytes = list.bytes;
-        self.list = bytes;
-        self.size = list.count;
-        self
-    }
-
-    // The state after a line.
-    fn changed(self, line: &[u8], numbers: Numbers) -> State {
-        if line.len() == 0 {
-            return self;
-        }
-        match line[0] {
-            b'b' => self.with_table(built_in()),
-            b'z' => self.with_table([0; MOST_ENTRIES]),
-            b'm' => self.modified(numbers),
-            b'l' => self.listed(line),
-            _ => self,
-        }
+    fn take_list(&mut self, alloc: Global, line: &[u8]) -> Result<(), AllocError> {
+        self.list = given::spelled_by(alloc, line, 1)?;
+        Ok(())
     }
 }
 
-// Checks the front of the table.
-fn check(rt: &impl Print, state: State, numbers: Numbers) -> io::Result<()> {
-    let table = state.table;
-    printing::answered(
-        rt,
-        lexicon::check_table(front_bytes(&table, numbers.values[0])),
-    )
-}
-
-// Reads plain text with a table through a word list into a slice.
-fn read(
-    rt: &impl Print,
-    table: &[u8],
-    list: &[u8],
-    text: &[u8],
-    ranks: &mut [u32],
+// Reads the plain text of a line with the front of the table through the word list into so many ranks,
+// at most 20.
+fn text(
+    rt: &(impl Print + AllocGlobal),
+    state: &State,
+    line: &[u8],
+    numbers: &Numbers,
 ) -> io::Result<()> {
-    let answer = lent_tables::read_text_with(table, list, text, ranks);
-    printing::answered_with_ranks(rt, answer, ranks)
-}
-
-// Reads the plain text of a line into so many ranks, at most 20.
-fn text(rt: &impl Print, state: State, line: &[u8], numbers: Numbers) -> io::Result<()> {
-    let table = state.table;
-    let list = state.list;
-    let spelled = given::spelled_by(line, 3);
-    let mut ranks = [9u32; 20];
-    let size = base::least(numbers.values[1], 20);
-    read(
-        rt,
-        front_bytes(&table, numbers.values[0]),
-        front_bytes(&list, state.size),
-        front_bytes(&spelled.bytes, spelled.count),
-        &mut ranks[..size],
-    )
+    let text = given::spelled_by(rt.alloc(), line, 3)?;
+    let mut ranks = vec![in rt.alloc(); 9u32; numbers.at(1).min(20)]?;
+    let answer = lent_tables::read_text_with(
+        state.entries(numbers),
+        &state.list,
+        &text,
+        &mut ranks,
+    );
+    printing::answered_with_ranks(rt, answer, &ranks)
 }
 
 // Finds the word that a line spells in the word list with the front of the table.
-fn known(rt: &impl Print, state: State, line: &[u8], numbers: Numbers) -> io::Result<()> {
-    let table = state.table;
-    let list = state.list;
-    let spelled = given::spelled_by(line, 2);
-    printing::answered(
-        rt,
-        lent_tables::find_word_with(
-            front_bytes(&table, numbers.values[0]),
-            front_bytes(&list, state.size),
-            front_bytes(&spelled.bytes, spelled.count),
-        ),
-    )
-}
-
-// Makes a word list of plain text with a table in two slices.
-fn make(
-    rt: &impl Print,
-    table: &[u8],
-    text: &[u8],
-    list: &mut [u8],
-    ranks: &mut [u32],
+fn known(
+    rt: &(impl Print + AllocGlobal),
+    state: &State,
+    line: &[u8],
+    numbers: &Numbers,
 ) -> io::Result<()> {
-    let made = lent_tables::make_list_with(table, text, list, ranks);
-    printing::answered_with_list(rt, made.answer, made.bytes, made.words, list, ranks)
+    let word = given::spelled_by(rt.alloc(), line, 2)?;
+    let answer = lent_tables::find_word_with(state.entries(numbers), &state.list, &word);
+    printing::answered(rt, answer)
 }
 
-// Makes a word list of the plain text of a line in slices of so many bytes and ranks, at most 20.
-fn from(rt: &impl Print, state: State, line: &[u8], numbers: Numbers) -> io::Result<()> {
-    let table = state.table;
-    let spelled = given::spelled_by(line, 4);
-    let mut list = [9u8; 20];
-    let mut ranks = [9u32; 20];
-    let size = base::least(numbers.values[1], 20);
-    let count = base::least(numbers.values[2], 20);
-    make(
-        rt,
-        front_bytes(&table, numbers.values[0]),
-        front_bytes(&spelled.bytes, spelled.count),
-        &mut list[..size],
-        &mut ranks[..count],
-    )
+// Makes a word list of the plain text of a line with the front of the table, in slices of so many bytes
+// and ranks, at most 20.
+fn from(
+    rt: &(impl Print + AllocGlobal),
+    state: &State,
+    line: &[u8],
+    numbers: &Numbers,
+) -> io::Result<()> {
+    let text = given::spelled_by(rt.alloc(), line, 4)?;
+    let mut list = vec![in rt.alloc(); 9u8; numbers.at(1).min(20)]?;
+    let mut ranks = vec![in rt.alloc(); 9u32; numbers.at(2).min(20)]?;
+    let made = lent_tables::make_list_with(state.entries(numbers), &text, &mut list, &mut ranks);
+    printing::answered_with_list(rt, made.answer, made.bytes, made.words, &list, &ranks)
 }
 
-// Makes the call of a line, if it is one, and prints what came of it.
-fn show(rt: &impl Print, state: State, line: &[u8], numbers: Numbers) -> io::Result<()> {
-    if line.len() == 0 {
-        return Ok(());
+// Does what a line asks for.
+fn obey(
+    rt: &(impl Print + AllocGlobal),
+    state: &mut State,
+    command: Command,
+    line: &[u8],
+    numbers: &Numbers,
+) -> io::Result<()> {
+    match command {
+        Command::BuiltIn => state.table = built_in(),
+        Command::Zeros => state.table = [0; MOST_ENTRIES],
+        Command::Modify => state.modify(numbers),
+        Command::Check => printing::answered(rt, lexicon::check_table(state.entries(numbers)))?,
+        Command::List => state.take_list(rt.alloc(), line)?,
+        Command::Text => text(rt, state, line, numbers)?,
+        Command::Known => known(rt, state, line, numbers)?,
+        Command::From => from(rt, state, line, numbers)?,
     }
-    match line[0] {
-        b'c' => check(rt, state, numbers),
-        b't' => text(rt, state, line, numbers),
-        b'k' => known(rt, state, line, numbers),
-        b'f' => from(rt, state, line, numbers),
-        _ => Ok(()),
-    }
+    Ok(())
 }
 
 // Runs the case of a line.
-fn run_line(rt: &impl Print, state: State, line: &[u8]) -> io::Result<State> {
-    let numbers = given::numbers_of(line);
+fn run_line(rt: &(impl Print + AllocGlobal), state: &mut State, line: &[u8]) -> io::Result<()> {
+    let numbers = Numbers::of(rt.alloc(), line)?;
     printing::words(rt, line)?;
-    show(rt, state, line, numbers)?;
-    let next = state.changed(line, numbers);
-    printing::words(rt, b"\n")?;
-    Ok(next)
+    if let Some(command) = Command::of(line) {
+        obey(rt, state, command, line, &numbers)?;
+    }
+    print!(rt; "\n")
 }
 
 // Runs the cases of all lines, each over the state that the one before it left.
-fn run(rt: &impl Print, input: &[u8]) -> io::Result<()> {
-    let mut state = State::first();
-    let mut at: usize = 0;
-    while at < input.len() {
-        let end = given::line_end(input, at);
-        state = run_line(rt, state, &input[at..end])?;
-        at = end + 1;
+fn run(rt: &(impl Print + AllocGlobal), input: &[u8]) -> io::Result<()> {
+    let mut state = State::first(rt.alloc());
+    for line in Lines::of(input) {
+        run_line(rt, &mut state, line)?;
     }
     Ok(())
 }
 
 fn main(rt: HostRuntime) -> io::Result<()> {
-    let mut input = [0u8; 16384];
-    let size = reading::read_full(&mut rt.reader(), &mut input)?;
-    run(&rt, &input[..size])
+    let mut input = Vec::new(rt.alloc());
+    rt.reader().take(MOST_INPUT).read_to_end(&mut input)?;
+    run(&rt, &input)
 }

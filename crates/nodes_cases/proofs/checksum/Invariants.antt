@@ -1,9 +1,6 @@
--- `nodes_cases::checksum` keeps two remainders
-use Rattle.std.proofs.Common.{◌<◌, ◌≤◌, ◌-◌, length}
+-- both halves of a checksum stay below the number that it is taken by
+use Rattle.std.proofs.Common.{◌<◌}
 use Rattle.nodes_cases.proofs.checksum.Given as goal
 
-abbrev pub invariant-loop-i : goal.invariant-loop-i
-invariant-loop-i l = (l.i ≤ length l.bytes) × (l.low < 65521) × (l.high < 65521)
-
-abbrev pub decreases-loop-i : goal.decreases-loop-i
-decreases-loop-i l = length l.bytes - l.i
+abbrev pub invariant-loop-byte : goal.invariant-loop-byte
+invariant-loop-byte l = (l.low < 65521) × (l.high < 65521)
