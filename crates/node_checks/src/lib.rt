@@ -84,8 +84,8 @@ fn node_passes(
     ensures { result ≡ node_passes index.now.s index.now.shape.vocabulary index.now.lengths.now node (take (end - start) (drop start counted.now.bytes.now)) }
 {
     let counts = node_row(counted, start, end);
-    for value in 0..=255u8 {
-        if !value_passes(index, node, value, counts[usize::from(value)]) {
+    for (value, count) in counts.iter().enumerate() {
+        if !value_passes(index, node, value as u8, *count) {
             return false;
         }
     }

@@ -3,14 +3,12 @@ use Prim.Native.Nat.{ℕ, ◌≤◌, ◌<◌}
 use mathlib.Core.Path.{◌≡◌, refl, ap, ◌∙◌}
 use mathlib.Core.Bool.{Bool, true, false}
 use mathlib.Core.List.{List, [], ◌∷◌}
-use native.Mathlib.Omega.{arith}
 use borrow.Author.Tests.{lt-ltb, le-ltb, ltb-false, eq-eqb}
 use lib.Dec.{ltb}
 use lib.ListN.{length}
 use Rattle.base.proofs.Answers.{first_here, first_later, none_holds, answers}
 use Rattle.base.specs.Outcomes.{number_of, refused_by}
 use Rattle.base.specs.declared.refusal.Refusal.{Refusal}
-use Rattle.base.specs.declared.refusal.Refusal.TheVariants.{Vocabulary, Words, Blocks, TextRank, ShortSlice, Index, Kind, Phrase, AskedRank, Offset, Place, Page, WordList, Unlisted, Stream, Sizes, ListMaking, Table, Documents}
 use Rattle.base.specs.declared.refusal.Refused.{Refused}
 use Rattle.base.specs.Answers.{accepted, refused, refused_at, Case, NoneHolds, ◌⇒◌, first_of}
 use Rattle.base.specs.Refusals.{refusal_vocabulary, refusal_words, refusal_short_slice}
@@ -24,28 +22,6 @@ use Rattle.plain_text.specs.Sizes.{sizes_answer}
 -- the answer of a call that a refusal ends with which 0 is returned
 pub refused_is : (e : Refused) (why : Refusal) → e ≡ refused_by why → refused_at (number_of e.refusal) e.at ≡ refused (number_of why)
 refused_is e why q = ap (λ (x : Refused). refused_at (number_of x.refusal) x.at) q
-
--- it is a refusal
-pub is_refused : (why : Refusal) → number_of why ≡ 0 → ⊥
-is_refused Vocabulary e = omega arith
-is_refused Words e = omega arith
-is_refused Blocks e = omega arith
-is_refused TextRank e = omega arith
-is_refused ShortSlice e = omega arith
-is_refused Index e = omega arith
-is_refused Kind e = omega arith
-is_refused Phrase e = omega arith
-is_refused AskedRank e = omega arith
-is_refused Offset e = omega arith
-is_refused Place e = omega arith
-is_refused Page e = omega arith
-is_refused WordList e = omega arith
-is_refused Unlisted e = omega arith
-is_refused Stream e = omega arith
-is_refused Sizes e = omega arith
-is_refused ListMaking e = omega arith
-is_refused Table e = omega arith
-is_refused Documents e = omega arith
 
 -- the refusals in their order, and none
 module _ (words size room : ℕ) where

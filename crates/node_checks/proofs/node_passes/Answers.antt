@@ -1,5 +1,5 @@
 -- What is tested of a value is how often it stands in the node. Assumes nothing.
-use Rattle.std.proofs.Common.{◌+◌, ◌-◌, ◌≡◌, get_or, take, drop, sym, ap, ◌∙◌, arith}
+use Rattle.std.proofs.Common.{◌-◌, ◌≡◌, get_or, take, drop, sym, ap, ◌∙◌, arith}
 use Rattle.base.specs.Lists.{count_of}
 use Rattle.base.proofs.Ranges.{pass_range_suc}
 use Rattle.directory.proofs.Rows.{row_at}
@@ -16,7 +16,7 @@ tested c =
     let e = c.loop-value.value in
     c.value_passes.ensures
     ∙ ap (value_test a.index.now.s a.index.now.shape.vocabulary a.index.now.lengths.now a.node e)
-    (ap (λ i. get_or c.node_row-counts.result i 0) c.from.ensures ∙ ap (λ xs. get_or xs e 0) c.node_row-counts.ensures
+    (ap (λ xs. get_or xs e 0) c.node_row-counts.ensures
     ∙ row_at (take (a.end - a.start) (drop a.start a.counted.now.bytes.now)) e (omega arith))
 
 pub returns-then-not-value_passes : goal.returns-then-not-value_passes
@@ -29,8 +29,8 @@ pub loop-value-preserved : goal.loop-value-preserved
 loop-value-preserved c =
     pass_range_suc _ c.loop-value.value c.loop-value.invariant (sym (tested ((goal.at.loop-value-preserved c).After-value_passes)) ∙ c.if-not-value_passes.false)
 
-pub returns-else-not-value_passes : goal.returns-else-not-value_passes
+pub returns : goal.returns
 unfolding node_passes
-returns-else-not-value_passes c =
-    let last : c.loop-value.value + 1 ≡ 256 = omega arith in
-    sym (rw last at (pass_range_suc _ c.loop-value.value c.loop-value.invariant (sym (tested ((goal.at.returns-else-not-value_passes c).After-value_passes)) ∙ c.if-not-value_passes.false)))
+returns c =
+    let last : c.loop-value.value ≡ 256 = omega arith in
+    sym (rw last at c.loop-value.invariant)

@@ -10,7 +10,8 @@ use Rattle.lexicon.specs.Lexicon.{list_size}
 use Rattle.lexicon.specs.Reading.{text_words}
 use Rattle.plain_text.specs.Sizes.{sizes_answer}
 use Rattle.plain_text.proofs.Calls.{list_sized}
-use Rattle.plain_text.proofs.Sizes.{refused_is, is_refused, sizes_inside, sizes_first}
+use Rattle.base.proofs.Outcomes.{refusal_some}
+use Rattle.plain_text.proofs.Sizes.{refused_is, sizes_inside, sizes_first}
 use Rattle.plain_text.proofs.read_text_by.Goals as goal
 
 pub returns-in_err-size : goal.returns-in_err-size
@@ -21,7 +22,7 @@ returns-in_err-size c =
     let e = c.in_err-size.ensures
     ∙ ap (λ (n : ℕ). sizes_answer n (length (text_words table a.text.now)) (length a.ranks.now)) c.list_size-words.ensures in
     let n = λ (z : (sizes_answer (list_size a.list.now) (length (text_words table a.text.now)) (length a.ranks.now)).refusal ≡ 0).
-    is_refused c.in_err-size.field-0.0.refusal (ap (λ (r : Answer). r.refusal) e ∙ z) in
+    refusal_some c.in_err-size.field-0.0.refusal (ap (λ (r : Answer). r.refusal) e ∙ z) in
     rw (p.1, p.2) (read_text_refused table a.list.now a.text.now a.ranks.now _ (ne_eqb _ 0 n) (sizes_first table a.list.now a.text.now a.ranks.now n) _ e)
 
 pub returns-then-not-is_written : goal.returns-then-not-is_written
