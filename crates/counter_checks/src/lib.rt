@@ -7,13 +7,18 @@ ghost use Rattle.base.specs.Lists.{Below, same};
 ghost use Rattle.directory.specs.Counters.{is_directory, Sizes};
 ghost use Rattle.tallies.specs.Tallies.{counters, Reached, Passed};
 
-// Whether a superblock row is 256 totals.
+// Whether a superblock row is 256 totals. No turn leaves the loop, so that many numbers are compared at
+// once.
 fn same_superblock(superblocks: &[u32], row: usize, totals: &[u32; 256]) -> bool
     requires { ((row + 1) * 256 ≤ length superblocks.now) × (length totals.now ≡ 256) }
     ensures { result ≡ same (take 256 (drop (row * 256) superblocks.now)) totals.now }
 {
     let at = row * 256;
-    &superblocks[at..at + 256] == totals.as_slice()
+    let mut equal = true;
+    for x in 0..256usize {
+        equal &= superblocks[at + x] == totals[x];
+    }
+    equal
 }
 
 // Whether a block row is 256 counters. No turn leaves the loop, so that many numbers are compared at

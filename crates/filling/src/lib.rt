@@ -9,7 +9,7 @@ ghost use Rattle.directory.specs.Counters.{max_bytes};
 ghost use Rattle.tree.specs.Nodes.{node_bytes};
 ghost use Rattle.filling.specs.Filling.{first_nodes, node_lengths, InNodes, LengthsCounted, Parted, Stands};
 
-use tree::Place;
+use tree::{Place, Position};
 
 // Adds 1 to the length of each node in which the word at a place has a byte.
 fn count_word(s: usize, text: &[u32], place: Place, lengths: &mut [u32])
@@ -37,6 +37,15 @@ fn count_nodes(s: usize, text: &[u32], lengths: &mut [u32])
     }
 }
 
+// Writes a byte at a position of a node, whose bytes begin the part; the rest stays.
+fn put(part: &mut [u8], position: Position, byte: u8)
+    requires { position.0 < length part.old }
+    ensures { part.new ≡ set part.old position.0 byte }
+{
+    let at = position.0;
+    part[at] = byte;
+}
+
 // Writes a byte behind those that a node has so far, and adds 1 to the length of the node.
 fn write_byte(starts: &[u32], lengths: &mut [u32], bytes: &mut [u8], node: usize, byte: u8)
     requires { (node < length starts.now) × (node < length lengths.old) × (get_or lengths.old node 0 < max_bytes)
@@ -46,7 +55,7 @@ fn write_byte(starts: &[u32], lengths: &mut [u32], bytes: &mut [u8], node: usize
 {
     let start = starts[node] as usize;
     let position = lengths[node];
-    bytes[start + position as usize] = byte;
+    put(&mut bytes[start..], Position(position as usize), byte);
     lengths[node] = position + 1;
 }
 

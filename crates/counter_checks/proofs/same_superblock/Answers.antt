@@ -1,14 +1,17 @@
--- The row is compared with the totals number by number.
-use Rattle.std.proofs.Common.{ℕ, ◌≡◌, ◌+◌, ◌-◌, ◌*◌, List, take, drop, ◌∙◌, arith}
-use Rattle.base.specs.Lists.{same}
-use Rattle.tallies.proofs.Tables.{same_pointwise}
+-- One number more is compared.
+use Rattle.std.proofs.Common.{refl, arith}
+use Rattle.tallies.proofs.Tables.{compared_start, compared_next, compared_end}
 use Rattle.counter_checks.proofs.same_superblock.Goals as goal
+
+pub loop-x-init : goal.loop-x-init
+loop-x-init c = compared_start c.args.superblocks.now c.args.row c.args.totals.now
+
+pub loop-x-preserved : goal.loop-x-preserved
+loop-x-preserved c =
+    let a = c.args in
+    compared_next a.superblocks.now a.row a.totals.now (omega arith) c.requires.1 c.loop-x.invariant _ refl (omega arith)
 
 pub returns : goal.returns
 returns c =
     let a = c.args in
-    let at = a.row * 256 in
-    let e : at + 256 - at ≡ 256 = omega arith in
-    let part : List ℕ = take (at + 256 - at) (drop at a.superblocks.now) in
-    let q : c.eq.result ≡ same part c.as_slice.result.now = c.eq.ensures ∙ same_pointwise part c.as_slice.result.now in
-    rw (e, c.as_slice.ensures) at q
+    compared_end a.superblocks.now a.row a.totals.now (omega arith) c.requires.1 c.loop-x.invariant (omega arith)
