@@ -29,9 +29,9 @@ pub struct Progress {
 // What was read of a piece: how often the byte stands there, and the number of bytes that were read
 // with it.
 #[derive(Clone, Copy)]
-struct Piece {
-    found: usize,
-    read: usize,
+pub struct Piece {
+    pub found: usize,
+    pub read: usize,
 }
 
 // What a scan seeks: the occurrence of a byte in a block that has j others before it. The methods read

@@ -10,6 +10,16 @@ pub fn words(rt: &impl Print, text: &[u8]) -> io::Result<()> {
     rt.write_all(text)
 }
 
+// Writes a number in decimal.
+pub fn number(rt: &impl Print, n: usize) -> io::Result<()> {
+    print!(rt; "{n}")
+}
+
+// Writes four numbers in decimal, a blank between.
+pub fn four_numbers(rt: &impl Print, a: usize, b: usize, c: usize, d: usize) -> io::Result<()> {
+    print!(rt; "{a} {b} {c} {d}")
+}
+
 // Bytes and ranks have a function each: what is written of an element is all that the functions do.
 
 // Writes each byte as a blank and two hexadecimal digits.
