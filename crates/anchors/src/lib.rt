@@ -2,18 +2,19 @@
 // search goes, and the second, whose first byte stands in the root so many bytes from that of the
 // anchor wherever what is sought stands.
 //
-// No function of this crate is an entry: a text is behind an index that has passed the check, and a
-// query says of itself that it can be searched.
+// No function of this crate is an entry: a text is behind an index that has passed the check, and the
+// words are of its vocabulary.
 #![tactic(auto)]
 
 ghost use Rattle.std.specs.Prelude.{◌≡◌, ◌≤◌, ◌<◌, length};
-ghost use Rattle.base.specs.Texts.{max_words};
+ghost use Rattle.base.specs.Lists.{Below};
+ghost use Rattle.base.specs.Texts.{max_words, max_phrase};
 ghost use Rattle.words.specs.Texts.{text_of, vocabulary_of};
+ghost use Rattle.matching.specs.Searching.{Paired};
 ghost use Rattle.anchors.specs.Anchors.{Rarest, AnchorOf};
 ghost use Rattle.anchors.specs.Seconds.{second_at, SecondOf};
 
 use matching::Sought;
-use matching::query::Query;
 use tree::Place;
 use words::indexed_text::IndexedText;
 
@@ -27,10 +28,10 @@ pub struct Second {
 }
 
 // The index of a word of a phrase than which none of its words stands less often in the text.
-fn rarest(query: &Query) -> usize
-    ensures { Rarest (text_of query.now.text) query.now.words.now result }
+fn rarest(text: &IndexedText, words: &[u32]) -> usize
+    requires { (1 ≤ length words.now) × Below (vocabulary_of text.now) words.now }
+    ensures { Rarest (text_of text.now) words.now result }
 {
-    let (text, words) = (&query.text, query.words);
     let mut rare = 0;
     let mut least = text.frequency(words[0] as usize);
     for i in 1..words.len() {
@@ -44,11 +45,12 @@ fn rarest(query: &Query) -> usize
 }
 
 // The number of the anchor among the words: of a phrase its rarest word, of a pair the first.
-pub fn anchor_of(query: &Query) -> usize
-    ensures { AnchorOf query.now.words.now query.now.sought result }
+pub fn anchor_of(text: &IndexedText, words: &[u32], sought: Sought) -> usize
+    requires { (1 ≤ length words.now) × Below (vocabulary_of text.now) words.now }
+    ensures { AnchorOf words.now sought result }
 {
-    match query.sought {
-        Sought::Phrase => rarest(query),
+    match sought {
+        Sought::Phrase => rarest(text, words),
         Sought::Pair(_) => 0,
     }
 }
@@ -68,17 +70,17 @@ pub fn in_root(text: &IndexedText, rank: usize) -> usize
 
 // The number of the word of a phrase, other than its anchor, whose first byte is rarest in the root;
 // the anchor's where there is no other.
-fn rarest_beside(query: &Query, anchor: usize) -> usize
-    requires { anchor < length query.now.words.now }
-    ensures { result < length query.now.words.now }
+fn rarest_beside(text: &IndexedText, words: &[u32], anchor: usize) -> usize
+    requires { Below (vocabulary_of text.now) words.now × (anchor < length words.now) }
+    ensures { result < length words.now }
 {
     let mut second = anchor;
     let mut least = usize::MAX;
-    for (i, word) in query.words.iter().enumerate() {
+    for (i, word) in words.iter().enumerate() {
         if i == anchor {
             continue;
         }
-        let often = in_root(&query.text, *word as usize);
+        let often = in_root(text, *word as usize);
         if often < least {
             least = often;
             second = i;
@@ -116,19 +118,19 @@ fn second_at(offset: i32, n: usize) -> Second
 
 // The second word of what is sought with an anchor: of a phrase another of its words, of a pair the
 // second.
-pub fn second_of(query: &Query, anchor: usize) -> Second
-    requires { AnchorOf query.now.words.now query.now.sought anchor × (anchor < length query.now.words.now) }
-    ensures { SecondOf (text_of query.now.text) query.now.words.now query.now.sought anchor result }
+pub fn second_of(text: &IndexedText, words: &[u32], sought: Sought, anchor: usize) -> Second
+    requires { (length words.now ≤ max_phrase) × Below (vocabulary_of text.now) words.now × Paired words.now sought × AnchorOf words.now sought anchor × (anchor < length words.now) }
+    ensures { SecondOf (text_of text.now) words.now sought anchor result }
 {
-    match query.sought {
+    match sought {
         Sought::Phrase => {
-            let number = rarest_beside(query, anchor);
+            let number = rarest_beside(text, words, anchor);
             Second {
                 number,
                 here: anchor.saturating_sub(number),
                 there: number.saturating_sub(anchor),
             }
         }
-        Sought::Pair(offset) => second_at(offset, query.text.length()),
+        Sought::Pair(offset) => second_at(offset, text.length()),
     }
 }

@@ -1,6 +1,7 @@
 -- Bytes that are read on from a position to the next x. Assumes nothing.
 use Prim.Native.Nat.{ℕ, suc, ◌-◌, ◌≤◌, ◌<◌}
-use mathlib.Core.Path.{◌≡◌, refl, ap, ◌∙◌}
+use mathlib.Core.Path.{◌≡◌, refl, ap, sym, ◌∙◌}
+use mathlib.Core.Bool.{Bool, true, false, cond}
 use mathlib.Core.List.{List}
 use native.Mathlib.Omega.{arith}
 use lib.ListN.{length, take, get_or}
@@ -9,6 +10,10 @@ use Rattle.base.specs.Lists.{count_of, nth}
 use Rattle.base.proofs.Counts.{count_hit, count_miss}
 use Rattle.block_scan.specs.BlockScans.{scan_of, Met, Clear}
 use Rattle.block_scan.proofs.BlockScans.{scan_hit, not-past-one}
+
+-- a test does not hold and fail
+pub never : {P : Type 0} (t : Bool) → t ≡ true → t ≡ false → P
+never t e f = let n : ◌≡◌ {A = ℕ} 1 0 = ap (λ (b : Bool). cond b 1 0) (sym e ∙ f) in absurd (omega arith)
 
 -- no bytes are read
 pub clear_none : (x from : ℕ) (block : List ℕ) → from ≤ length block → Clear x from block from

@@ -132,6 +132,7 @@ pub reaches : {s : ℕ} {shape : Shape} {a : Arrays} {starts documents words : L
 reaches {s} {shape} {a} {starts} {documents} {words} {sought} x h end hit y place until track e least tracked passed after = record {
   hit_is = least;
   search_is = subst (λ (z : Search). SearchFor s shape a starts words sought z) (sym e) moved;
+  way_is = ap (λ (z : Search). z.way) e;
   place_is = rw (ap (λ (z : Search). z.place.0) e) after;
 }
   where

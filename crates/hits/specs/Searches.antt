@@ -65,4 +65,6 @@ place_after None end = end
 pub record Reaches (s : ℕ) (shape : Shape) (a : Arrays) (starts documents words : List ℕ) (sought : Sought) (x : Search) (end : ℕ) (r : Reached) : Type 0 where
   pub hit_is : r.hit ≡ least_hit (hit_in documents (text_in s a) words sought) x.place.0 end
   pub search_is : SearchFor s shape a starts words sought r.search
+  -- along the same way
+  pub way_is : r.search.way ≡ x.way
   pub place_is : r.search.place.0 ≡ place_after r.hit end

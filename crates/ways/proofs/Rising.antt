@@ -12,7 +12,7 @@ use Rattle.words.specs.declared.Step.{Step}
 use Rattle.words.specs.declared.indexed_text.IndexedText.{IndexedText}
 use Rattle.words.proofs.Parts.{checked_number}
 use Rattle.words.proofs.Positions.{parent_less, end_there}
-use Rattle.ways.specs.Ways.{step_of, StepUp, WayOf}
+use Rattle.ways.specs.Ways.{step_of, steps_in, StepUp, WayOf}
 use Rattle.ways.specs.declared.Way.{Way}
 
 -- the steps of rank i up to node k
@@ -99,5 +99,14 @@ module _ (text : IndexedText) (i : ℕ) (below : i < vocabulary_of text) where
           }
 
   -- at the root they are the way
-  pub risen : {w : Way} {k : ℕ} → k ≡ 0 → Rising text i w k → WayOf text.index.s text.index.bytes.now text.starts.now i w
-  risen z r = record { some = r.some; most = r.most; first = r.first; above = r.above; ends = r.at ∙ z }
+  pub risen : {w : Way} {k : ℕ} → k ≡ 0 → Rising text i w k → WayOf text.index.s text.index.bytes.now text.starts.now i w × (w.length ≤ 3)
+  risen {w} z r =
+      let n : steps_in w ≡ w.length = omega (arith, r.most) in (
+        record {
+          some = r.some;
+          first = r.first;
+          above = λ k h. r.above k (omega (arith, n));
+          ends = ap (λ (q : ℕ). (step_of w (q - 1)).node) n ∙ r.at ∙ z;
+        },
+        r.most,
+      )

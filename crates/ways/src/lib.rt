@@ -20,7 +20,7 @@ use words::indexed_text::IndexedText;
 
 // The way of a rank from the node where its codeword ends up to the root: as many steps as its
 // codeword has bytes, the first and those above it. No heap is here, so the array has room for the
-// longest way.
+// longest way, and a longer one is three steps long.
 #[derive(Clone, Copy)]
 pub struct Way {
     pub length: usize,
@@ -32,7 +32,7 @@ pub struct Way {
 // than the root its digit in the parent.
 pub fn way_of(text: &IndexedText, rank: usize) -> Way
     requires { rank < vocabulary_of text.now }
-    ensures { WayOf text.now.index.s text.now.index.bytes.now text.now.starts.now rank result }
+    ensures { WayOf text.now.index.s text.now.index.bytes.now text.now.starts.now rank result × (result.length ≤ 3) }
 {
     let s = text.index.s;
     let mut node = tree::node_of(s, rank);
@@ -110,7 +110,7 @@ pub fn place_along(text: &IndexedText, rank: usize, way: Way, near: Near, j: usi
     let low = nth_in_node(text, way.first, j, near.first);
     let mut at = low.at;
     let mut above = near.above;
-    for i in 0..way.length - 1 {
+    for i in 0..way.length.min(3) - 1 {
         let found = nth_in_node(text, way.above[i], at.0, above[i]);
         at = found.at;
         above[i] = found.superblock;
@@ -217,7 +217,7 @@ pub fn piece_along(text: &IndexedText, rank: usize, way: Way, track: Track, exac
             },
         };
     }
-    let last = way.length - 2;
+    let last = way.length.min(3) - 2;
     let mut position = low.at;
     for i in 0..last {
         let found = nth_in_node(text, way.above[i], position.0, above[i]);

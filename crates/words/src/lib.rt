@@ -37,6 +37,20 @@ pub struct Step {
     pub skipped: usize,
 }
 
+// The step that looks for a byte in a node, by a table of where the nodes start.
+pub fn step_in(counted: &CountedBytes, starts: &[u32], node: usize, byte: u8) -> Step
+    requires { (node < length starts.now) × (get_or starts.now node 0 ≤ length counted.now.bytes.now) }
+    ensures { StepIn counted.now.bytes.now starts.now node byte result }
+{
+    let start = starts[node] as usize;
+    let skipped = counted.count_below(byte, start);
+    Step {
+        node,
+        byte,
+        skipped,
+    }
+}
+
 // How often a rank stands below a place, and the position of the place in the node where its codeword
 // ends.
 #[derive(Clone, Copy)]
@@ -89,13 +103,7 @@ impl<'a> IndexedText<'a> {
         requires { node < length self.now.index.lengths.now }
         ensures { StepIn self.now.index.bytes.now self.now.starts.now node byte result }
     {
-        let start = self.start_of(node);
-        let skipped = self.counted().count_below(byte, start);
-        Step {
-            node,
-            byte,
-            skipped,
-        }
+        step_in(&self.counted(), self.starts, node, byte)
     }
 
     // How often the byte of a step stands below a position of its node: so often it stands below the

@@ -3,4 +3,4 @@ use Rattle.anchors.proofs.rarest_beside.Given as goal
 
 -- the number is that of a word
 abbrev pub invariant-loop-i : goal.invariant-loop-i
-invariant-loop-i l = l.second < length l.query.words.now
+invariant-loop-i l = l.second < length l.words

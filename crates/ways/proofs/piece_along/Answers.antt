@@ -3,7 +3,7 @@ use Rattle.std.proofs.Common.{◌≡◌, ◌+◌, ◌-◌, ℕ, suc, get_or, ref
 use Rattle.base.specs.Lists.{nth}
 use Rattle.words.specs.Texts.{text_of, bytes_of_node}
 use Rattle.ways.specs.Asks.{Asks}
-use Rattle.ways.specs.Ways.{step_of}
+use Rattle.ways.specs.Ways.{step_of, steps_in}
 use Rattle.ways.proofs.Ways.{Climbed, asks_most, root_start, first_asks, first_climbed, up_asks, up_climbed, climbed_root, track_past}
 use Rattle.ways.proofs.piece_along.Goals as goal
 use Rattle.ways.proofs.piece_along.Goals.{Start, After-next_in_node-low}
@@ -34,7 +34,7 @@ overflow_add-result c = omega (arith, c.next_in_node-low.ensures, (asks_most c.a
 pub returns-then-way-eq1 : goal.returns-then-way-eq1
 returns-then-way-eq1 c =
     let a = c.args in
-    let n : 0 ≡ a.way.length - 1 = omega arith in
+    let n : 0 ≡ steps_in a.way - 1 = omega arith in
     let e = climbed_root a.text.now a.rank c.requires.0 a.track.ordinal c.requires.3
     (ap (λ (m : ℕ). (step_of a.way m).node) n ∙ c.requires.1.ends) (in-first (goal.at.returns-then-way-eq1 c).After-next_in_node-low) in
     (omega (arith, e), omega (arith, e), track_past c.requires.1.first (first (goal.at.returns-then-way-eq1 c).Start).has c.next_in_node-low.ensures _, refl)
@@ -60,8 +60,8 @@ pub piece_in_root-piece-requires : goal.piece_in_root-piece-requires
 piece_in_root-piece-requires c =
     let a = c.args in
     let l = c.loop-i in
-    let e : l.i ≡ a.way.length - 2 = omega arith in
-    let n : suc l.i ≡ a.way.length - 1 = omega arith in
+    let e : l.i ≡ c.min-last.result - 2 = omega arith in
+    let n : suc l.i ≡ steps_in a.way - 1 = omega arith in
     subst (λ (m : ℕ). Asks a.text.now (step_of a.way (suc m)) l.position.0 × (get_or a.text.now.starts.now (step_of a.way (suc m)).node 0 ≡ 0)) e (
       up_asks a.text.now a.rank c.requires.0 a.track.ordinal c.requires.3 (c.requires.1.above l.i (omega arith)) l.invariant,
       root_start a.text.now.ready (step_of a.way (suc l.i)).node (ap (λ (m : ℕ). (step_of a.way m).node) n ∙ c.requires.1.ends),
@@ -72,8 +72,8 @@ returns c =
     let a = c.args in
     let l = c.loop-i in
     let y = step_of a.way (suc l.i) in
-    let e : l.i ≡ a.way.length - 2 = omega arith in
-    let n : suc l.i ≡ a.way.length - 1 = omega arith in
+    let e : l.i ≡ c.min-last.result - 2 = omega arith in
+    let n : suc l.i ≡ steps_in a.way - 1 = omega arith in
     let up = up_climbed a.text.now a.rank c.requires.0 a.track.ordinal c.requires.3 (c.requires.1.above l.i (omega arith)) l.invariant
     (nth y.byte l.position.0 (bytes_of_node a.text.now y.node)) refl in
     let at = climbed_root a.text.now a.rank c.requires.0 a.track.ordinal c.requires.3 (ap (λ (m : ℕ). (step_of a.way m).node) n ∙ c.requires.1.ends) up in

@@ -1,7 +1,7 @@
 -- From the position in the node where the codeword ends each step finds the one in its parent. Assumes nothing.
 use Rattle.std.proofs.Common.{◌≡◌, ◌+◌, ◌-◌, ℕ, suc, ap, subst, ◌∙◌, arith}
 use Rattle.tree.specs.declared.Place.{Place}
-use Rattle.ways.specs.Ways.{step_of}
+use Rattle.ways.specs.Ways.{step_of, steps_in}
 use Rattle.ways.proofs.Ways.{Climbed, first_asks, first_climbed, up_asks, up_climbed, climbed_root}
 use Rattle.ways.proofs.place_along.Goals as goal
 
@@ -29,6 +29,6 @@ pub returns : goal.returns
 returns c =
     let a = c.args in
     let l = c.loop-i in
-    let e : l.i ≡ a.way.length - 1 = omega arith in
+    let e : l.i ≡ steps_in a.way - 1 = omega arith in
     ap (λ (x : Place). x.0) c.root_place.ensures
     ∙ climbed_root a.text.now a.rank c.requires.0 a.j c.requires.2 (ap (λ (m : ℕ). (step_of a.way m).node) e ∙ c.requires.1.ends) l.invariant

@@ -12,4 +12,4 @@ returns-clause-steps c =
 pub returns-clause-goes : goal.returns-clause-goes
 returns-clause-goes c =
     let r = c.next_hit-reached in
-    goes_on c.args.self.now r.result.hit r.result.search r.ensures.search_is r.ensures.hit_is r.ensures.place_is
+    goes_on c.args.self.now r.result.hit r.result.search r.ensures.search_is (rw r.ensures.way_is c.requires.1) r.ensures.hit_is r.ensures.place_is
