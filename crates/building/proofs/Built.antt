@@ -18,6 +18,7 @@ use Rattle.index.specs.Exact.{WithinLimits, IsText}
 use Rattle.index.proofs.Refusals.{some_number, build_stays, build_short}
 use Rattle.index.proofs.Texts.{stream_short}
 use Rattle.measuring.specs.declared.IndexSizes.{IndexSizes}
+use Rattle.measuring.specs.declared.Measured.{Measured}
 use Rattle.measuring.specs.Sizes.{sizes_of, measured, measured_of, measure_answer}
 use Rattle.measuring.proofs.Sizes.{measure_passed, measured_bytes, taken_up, turned_down, its_answer, its_sizes}
 use Rattle.writing.specs.Slices.{too_short, Buildable, fronts}
@@ -56,8 +57,8 @@ module _ (s : ℕ) (shape : Shape) (t : List ℕ) where
 
 module _ (s : ℕ) (within : Closing s) (shape : Shape) (limits : WithinLimits s shape) (t : List ℕ) (text : IsText shape.vocabulary t) (n : ℕ) (is : n ≡ length (stream s t)) where
   -- its L is not too large to be tested
-  pub size_tested : n ≤ max_bytes
-  size_tested = rw is (stream_short s shape t within limits text)
+  pub bytes_tested : n ≤ max_bytes
+  bytes_tested = rw is (stream_short s shape t within limits text)
 
   module _ (z : Arrays) where
     -- the slices are too short for the index exactly if they are for so many bytes
@@ -77,3 +78,18 @@ module _ (s : ℕ) (within : Closing s) (shape : Shape) (limits : WithinLimits s
     -- and when it is written, the call has built it
     pub long_built : (a : Arrays) → a ≡ fronts (index_of s shape t) z → too_short s shape n z ≡ false → (accepted n ≡ build_answer s shape t z) × (a ≡ build_exit s shape t z)
     long_built a w e = build_done s shape t z (long_buildable e) _ _ (ap accepted is) w
+
+-- ---- a text that is measured, and accepted
+
+module _ (s : ℕ) (shape : Shape) (t : List ℕ) (within : Closing s) {m : Measured} (is : m ≡ measured_of s shape t) (zero : m.answer.refusal ≡ 0) where
+  -- it is a text of the vocabulary, within the limits
+  passed : WithinLimits s shape × IsText shape.vocabulary t
+  passed = measure_passed s shape t (taken_up s shape t (its_answer s shape t is) zero)
+
+  -- the L that was measured is the length of its stream
+  pub measured_size : m.sizes.bytes ≡ length (stream s t)
+  measured_size = ap (λ (x : IndexSizes). x.bytes) (its_sizes s shape t is zero) ∙ measured_bytes s shape t within (taken_up s shape t (its_answer s shape t is) zero)
+
+  -- which is not too large to be tested
+  pub size_tested : Closing s × WithinLimits s shape × (m.sizes.bytes ≤ max_bytes)
+  size_tested = (within, passed.0, bytes_tested s within shape passed.0 t passed.1 m.sizes.bytes measured_size)

@@ -1,11 +1,13 @@
 -- Laws of what is written into a slice, one list behind another. Assumes nothing.
-use Prim.Native.Nat.{ℕ, ◌+◌, ◌≤◌}
-use mathlib.Core.Path.{◌≡◌, sym, ap, ap₂, ◌∙◌}
-use mathlib.Core.List.{List, [], ◌++◌, append-nil}
+use Prim.Native.Nat.{ℕ, ◌+◌, ◌≤◌, ◌<◌}
+use mathlib.Core.Path.{◌≡◌, refl, sym, ap, ap₂, ◌∙◌}
+use mathlib.Core.List.{List, [], ◌∷◌, ◌++◌, append-nil}
 use native.Mathlib.Omega.{arith}
-use lib.ListN.{length, take, drop, length-append, take-append-drop}
+use native.Mathlib.Numerals.{add-one}
+use lib.ListN.{length, take, drop, get_or, set, length-append, take-append-drop}
+use lib.Seq.{take-suc, length-take-le}
 use Rattle.base.specs.Answers.{written, front}
-use Rattle.base.proofs.Fronts.{written_more, length_written}
+use Rattle.base.proofs.Fronts.{written_one, written_more, length_written}
 use Rattle.formatting.specs.Writing.{Wrote}
 
 -- nothing is written
@@ -17,6 +19,10 @@ wrote_none at z =
       after = omega arith;
       slice = sym (ap₂ (λ (p : List ℕ) (k : ℕ). p ++ drop k z) (append-nil (take at z)) e ∙ take-append-drop at z);
     }
+
+-- one element is written
+pub wrote_one : (x at : ℕ) (z : List ℕ) → at < length z → Wrote (x ∷ []) at z (at + 1) (set z at x)
+wrote_one x at z h = record { after = refl; slice = written_one x z at h }
 
 -- where two lists have room, the first has
 pub room_first : (xs ys : List ℕ) (at n : ℕ) → at + length (xs ++ ys) ≤ n → at + length xs ≤ n
@@ -71,3 +77,13 @@ module _ (a b c d : List ℕ) (at : ℕ) (z : List ℕ) (room : at + length (a +
 
         pub wrote_four : {l : ℕ} {v : List ℕ} → Wrote d k w l v → Wrote (a ++ b ++ c ++ d) at z l v
         wrote_four four = wrote_both (wrote_both (wrote_both one b room_two two) c room_three three) d room four
+
+-- the next element of a list is written behind those before it
+pub wrote_next : (xs : List ℕ) (at i : ℕ) (z y : List ℕ) → i < length xs → at + length xs ≤ length z → Wrote (take i xs) at z (at + i) y
+    → Wrote (take (i + 1) xs) at z (at + (i + 1)) (set y (at + i) (get_or xs i 0))
+wrote_next xs at i z y h room w =
+    let n : length (take i xs) ≡ i = length-take-le i xs (omega arith) in
+    let e : take (i + 1) xs ≡ take i xs ++ (get_or xs i 0 ∷ []) = rw add-one (take-suc xs i 0 h) in
+    let k : at + (i + 1) ≡ at + i + 1 = omega arith in
+    let r : at + length (take i xs ++ (get_or xs i 0 ∷ [])) ≤ length z = omega (arith, length-append (take i xs) (get_or xs i 0 ∷ [])) in
+    rw (e, k) (wrote_both w (get_or xs i 0 ∷ []) r (wrote_one (get_or xs i 0) (at + i) y (omega (arith, room_second w (get_or xs i 0 ∷ []) r))))

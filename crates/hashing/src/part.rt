@@ -4,6 +4,7 @@ ghost use Rattle.std.specs.Prelude.{◌≡◌, drop};
 ghost use Rattle.hashing.specs.HashTables.{HashTable};
 ghost use Rattle.scanning.specs.Scans.{words_at, WordBegins};
 
+use crate::chain::find_from;
 use crate::slots::Slots;
 use crate::word_list::WordList;
 
@@ -32,19 +33,17 @@ impl Part<'_> {
         requires { (at ≤ length text.now) × (first ≤ self.now.count) × (0 < first → bucket_of (spelled_at self.now.list.now.letters.table.now self.now.list.now.bytes.now self.now.from (first - 1)) ≡ bucket_of (run_at self.now.list.now.letters.table.now text.now at)) }
         ensures { link_to result ≡ index_from_part self.now (run_at self.now.list.now.letters.table.now text.now at) first }
     {
-        let mut word = first;
-        while 0 < word {
-            let start = self.slots.starts[word - 1];
-            if self
-                .list
-                .letters
-                .same_word(text, at, self.list.bytes, start)
-            {
-                return Some(word - 1);
-            }
-            word = self.slots.links[word - 1] as usize;
-        }
-        None
+        find_from(
+            &self.list.letters,
+            self.list.bytes,
+            self.from,
+            self.count,
+            &self.slots.links,
+            &self.slots.starts,
+            text,
+            at,
+            first,
+        )
     }
 
     // Looks a word of a text up: its number in the part.

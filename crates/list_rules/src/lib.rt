@@ -94,7 +94,7 @@ pub fn is_distinct(list: &WordList, slots: &mut Slots) -> bool
     while first < list.size {
         let left = list.size - first;
         let count = left.min(MAX_PART);
-        let behind = slots.hash_part(list, from, count);
+        let behind = slots.hash_part(&list.letters, list.bytes, from, count);
         let part = Part {
             list: &*list,
             from,

@@ -54,30 +54,51 @@ impl ListTables {
         requires { (length text.now ≤ max_list_text) × Tables self.old.heads self.old.links self.old.starts self.old.firsts self.old.counts }
         ensures { (list_made_of result ≡ list_made letters.now.table.now text.now list.old ranks.old) × (list.new ≡ make_list_exit letters.now.table.now text.now list.old ranks.old) × (ranks.new ≡ make_ranks_exit letters.now.table.now text.now list.old ranks.old) }
     {
-        let size = word_places::note_words(
+        make_in_tables(
             letters,
             text,
             &mut self.heads,
             &mut self.links,
             &mut self.starts,
             &mut self.firsts,
-        );
-        let words = word_places::count_places(&self.firsts, size, &mut self.counts);
-        if MAX_LIST_WORDS < words {
-            return Err(Refusal::ListMaking.into());
-        }
-        self.heads.fill(0);
-        counting_sort::order_places(&mut self.counts, size, &mut self.heads, &mut self.links);
-        let noted = NotedText {
-            letters: &*letters,
-            text: &*text,
-            size,
-            words,
-            starts: &self.starts,
-            order: &self.links,
-            firsts: &self.firsts,
-            values: &self.counts,
-        };
-        noted.write_made(list, ranks)
+            &mut self.counts,
+            list,
+            ranks,
+        )
     }
+}
+
+// Makes the list of a text that is not too long for it, in tables that are lent.
+pub fn make_in_tables(
+    letters: &Letters,
+    text: &[u8],
+    heads: &mut [u32],
+    links: &mut [u32],
+    starts: &mut [usize],
+    firsts: &mut [u32],
+    counts: &mut [u32],
+    list: &mut [u8],
+    ranks: &mut [u32],
+) -> Result<Made, Refused>
+    requires { (length text.now ≤ max_list_text) × Tables heads.old links.old starts.old firsts.old counts.old }
+    ensures { (list_made_of result ≡ list_made letters.now.table.now text.now list.old ranks.old) × (list.new ≡ make_list_exit letters.now.table.now text.now list.old ranks.old) × (ranks.new ≡ make_ranks_exit letters.now.table.now text.now list.old ranks.old) }
+{
+    let size = word_places::note_words(letters, text, heads, links, starts, firsts);
+    let words = word_places::count_places(firsts, size, counts);
+    if MAX_LIST_WORDS < words {
+        return Err(Refusal::ListMaking.into());
+    }
+    heads.fill(0);
+    counting_sort::order_places(counts, size, heads, links);
+    let noted = NotedText {
+        letters: &*letters,
+        text: &*text,
+        size,
+        words,
+        starts: &*starts,
+        order: &*links,
+        firsts: &*firsts,
+        values: &*counts,
+    };
+    noted.write_made(list, ranks)
 }

@@ -2,6 +2,8 @@
 // written.
 #![tactic(auto)]
 
+mod lists;
 mod noted_text;
 
+pub use lists::{list_bytes, look_up, write_list};
 pub use noted_text::NotedText;

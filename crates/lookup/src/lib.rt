@@ -46,7 +46,7 @@ pub fn count_listed(
     let mut found: usize = 0;
     while first < list.size {
         let count = (list.size - first).min(MAX_PART);
-        let behind = slots.hash_part(list, from, count);
+        let behind = slots.hash_part(&list.letters, list.bytes, from, count);
         let part = Part {
             list: &*list,
             from,

@@ -37,7 +37,7 @@ pub fn write_ranks(list: &WordList, slots: &mut Slots, text: &[u8], size: usize,
     let mut first: usize = 0;
     while first < words {
         let count = (words - first).min(MAX_PART);
-        let behind = slots.hash_part(list, from, count);
+        let behind = slots.hash_part(&list.letters, list.bytes, from, count);
         let part = Part {
             list: &*list,
             from,

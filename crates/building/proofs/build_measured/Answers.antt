@@ -1,13 +1,13 @@
 -- The slices decide. Assumes nothing.
 use Rattle.std.proofs.Common.{sym, ◌∙◌}
 use Rattle.index.specs.Arrays.{arrays}
-use Rattle.building.proofs.Built.{size_tested, short_built, long_buildable, long_built}
+use Rattle.building.proofs.Built.{bytes_tested, short_built, long_buildable, long_built}
 use Rattle.building.proofs.build_measured.Goals as goal
 
 pub too_short-requires : goal.too_short-requires
 too_short-requires c =
     let r = c.requires.text in
-    (r.0, r.1, size_tested c.args.s r.0 c.args.shape r.1 c.args.text.now r.2 c.args.needed c.requires.bytes)
+    (r.0, r.1, bytes_tested c.args.s r.0 c.args.shape r.1 c.args.text.now r.2 c.args.needed c.requires.bytes)
 
 pub returns-then-too_short : goal.returns-then-too_short
 returns-then-too_short c =

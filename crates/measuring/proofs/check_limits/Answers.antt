@@ -14,13 +14,13 @@ returns-in_err-check_vocabulary c =
     let a = c.args in
     let p = err_from_is_err_and c.from_residual.result c.from_residual.ensures.1 in
     let e = c.in_err-check_vocabulary.ensures in
-    rw (p.1, p.2, e.0) (refuses_by a.s a.shape a.text.now 1 (omega arith) (text_vocabulary a.s a.shape a.text.now (accepted 0) e.1))
+    rw (p.1, p.2, e.0) (refuses_by a.s a.shape a.text.now 1 0 (omega arith) refl (text_vocabulary a.s a.shape a.text.now (accepted 0) e.1))
 
 pub returns-then-text-gt-MAX_WORDS : goal.returns-then-text-gt-MAX_WORDS
 unfolding measure_answer
 returns-then-text-gt-MAX_WORDS c =
     let a = c.args in
-    rw c.into.ensures (refuses_by a.s a.shape a.text.now 2 (omega arith) (text_words_lem a.s a.shape a.text.now (accepted 0) c.in_ok-check_vocabulary.ensures c.if-text-gt-MAX_WORDS.true))
+    rw c.into.ensures (refuses_by a.s a.shape a.text.now 2 0 (omega arith) refl (text_words_lem a.s a.shape a.text.now (accepted 0) c.in_ok-check_vocabulary.ensures c.if-text-gt-MAX_WORDS.true))
 
 pub returns-in_err-check_blocks : goal.returns-in_err-check_blocks
 unfolding measure_answer
@@ -28,7 +28,7 @@ returns-in_err-check_blocks c =
     let a = c.args in
     let p = err_from_is_err_and c.from_residual-in_err-check_blocks.result c.from_residual-in_err-check_blocks.ensures.1 in
     let e = c.in_err-check_blocks.ensures in
-    rw (p.1, p.2, e.0) (refuses_by a.s a.shape a.text.now 3 (omega arith) (text_blocks a.s a.shape a.text.now (accepted 0) c.in_ok-check_vocabulary.ensures c.if-text-gt-MAX_WORDS.false e.1))
+    rw (p.1, p.2, e.0) (refuses_by a.s a.shape a.text.now 3 0 (omega arith) refl (text_blocks a.s a.shape a.text.now (accepted 0) c.in_ok-check_vocabulary.ensures c.if-text-gt-MAX_WORDS.false e.1))
 
 pub returns : goal.returns
 returns c =

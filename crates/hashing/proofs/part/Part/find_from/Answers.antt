@@ -1,77 +1,10 @@
--- `hashing::part::Part::find_from` meets its contract. Assumes nothing.
-use Rattle.std.proofs.Common.{◌≡◌, ℕ, suc, ◌-◌, ◌<◌, get_or, refl, sym, ◌∙◌, ap, arith}
-use Rattle.base.specs.Lists.{same}
-use Rattle.hashing.proofs.HashTables.{chain_left_less, next_in_most, next_in_from, next_in_bucket, index_next, index_hit, index_none}
-use Rattle.hashing.specs.HashTables.{spelled_at, next_in, index_from}
-use Rattle.scanning.specs.Scans.{run_at, bucket_of}
+-- `hashing::part::Part::find_from` meets its contract: the look-up along the bucket, in the part's own hash table. Assumes nothing.
 use Rattle.hashing.proofs.part.Part.find_from.Goals as goal
-use Rattle.hashing.proofs.part.Part.find_from.Goals.{After-same_word}
 
--- the word compared agrees with the one looked for exactly if they are spelled alike
-compared : (c : After-same_word) → c.same_word.result
-    ≡ same (run_at c.args.self.now.list.now.letters.table.now c.args.text.now c.args.at)
-    (spelled_at c.args.self.now.list.now.letters.table.now c.args.self.now.list.now.bytes.now c.args.self.now.from (c.loop-word.word - 1))
-compared c =
+pub find_from-requires : goal.find_from-requires
+find_from-requires c =
     let p = c.args.self.now in
-    c.same_word.ensures
-    ∙ ap (same (run_at p.list.now.letters.table.now c.args.text.now c.args.at))
-    (p.hashed.begun.start (c.loop-word.word - 1) (omega (arith, c.loop-word.invariant.0, c.loop-word-test.true))).1
-
--- the next word of its bucket
-linked : (c : After-same_word) → get_or c.args.self.now.slots.now.links (c.loop-word.word - 1) 0
-    ≡ next_in c.args.self.now.list.now.letters.table.now c.args.self.now.list.now.bytes.now c.args.self.now.from c.args.self.now.count
-    (bucket_of (run_at c.args.self.now.list.now.letters.table.now c.args.text.now c.args.at)) (suc (c.loop-word.word - 1))
-linked c =
-    let p = c.args.self.now in
-    p.hashed.chained.linked.link (c.loop-word.word - 1) (omega arith) (omega (arith, c.loop-word.invariant.0, c.loop-word-test.true))
-    ∙ ap (λ (b : ℕ). next_in p.list.now.letters.table.now p.list.now.bytes.now p.from p.count b (suc (c.loop-word.word - 1))) (c.loop-word.invariant.2 c.loop-word-test.true)
-
-pub returns-then-same_word : goal.returns-then-same_word
-returns-then-same_word c =
-    let p = c.args.self.now in
-    let table = p.list.now.letters.table.now in
-    let list = p.list.now.bytes.now in
-    let loop = c.loop-word in
-    let w = run_at table c.args.text.now c.args.at in
-    let e : loop.word ≡ suc (loop.word - 1) = omega (arith, c.loop-word-test.true) in
-    sym (index_hit table list p.from w p.count (loop.word - 1) (omega (arith, loop.invariant.0, c.loop-word-test.true))
-    (sym (compared (goal.at.returns-then-same_word c).After-same_word) ∙ c.if-same_word.true))
-    ∙ ap (index_from table list p.from p.count w) (sym e) ∙ loop.invariant.1
-
-pub loop-word-smaller : goal.loop-word-smaller
-loop-word-smaller c =
-    let p = c.args.self.now in
-    let table = p.list.now.letters.table.now in
-    let list = p.list.now.bytes.now in
-    let loop = c.loop-word in
-    let w = run_at table c.args.text.now c.args.at in
-    let l = linked (goal.at.loop-word-smaller c).After-same_word in
-    chain_left_less p.count loop.word (get_or p.slots.now.links (loop.word - 1) 0) c.loop-word-test.true loop.invariant.0
-    (omega (arith, l, next_in_most table list p.from p.count (bucket_of w) (suc (loop.word - 1)) (omega (arith, c.loop-word-test.true, loop.invariant.0))))
-    (λ i e. omega (arith, next_in_from table list p.from p.count (bucket_of w) (suc (loop.word - 1)) i (sym l ∙ e)))
-
-pub loop-word-preserved : goal.loop-word-preserved
-loop-word-preserved c =
-    let p = c.args.self.now in
-    let table = p.list.now.letters.table.now in
-    let list = p.list.now.bytes.now in
-    let loop = c.loop-word in
-    let w = run_at table c.args.text.now c.args.at in
-    let e : loop.word ≡ suc (loop.word - 1) = omega (arith, c.loop-word-test.true) in
-    let h : loop.word - 1 < p.count = omega (arith, loop.invariant.0) in
-    let l = linked (goal.at.loop-word-preserved c).After-same_word in (
-      omega (arith, l, next_in_most table list p.from p.count (bucket_of w) (suc (loop.word - 1)) (omega arith)),
-      ap (index_from table list p.from p.count w) l
-          ∙ index_next table list p.from w (bucket_of w) p.count (loop.word - 1) refl h (sym (compared (goal.at.loop-word-preserved c).After-same_word) ∙ c.if-same_word.false)
-          ∙ ap (index_from table list p.from p.count w) (sym e) ∙ loop.invariant.1,
-      λ (n : 0 < get_or p.slots.now.links (loop.word - 1) 0).
-          next_in_bucket table list p.from p.count (bucket_of w) (suc (loop.word - 1)) (get_or p.slots.now.links (loop.word - 1) 0 - 1) (omega (arith, l, n)),
-    )
+    (p.hashed.few, p.hashed.begun, p.hashed.chained.linked, c.requires.0, c.requires.1, c.requires.2)
 
 pub returns : goal.returns
-returns c =
-    let p = c.args.self.now in
-    let w = run_at p.list.now.letters.table.now c.args.text.now c.args.at in
-    let e : c.loop-word.word ≡ 0 = omega arith in
-    sym (index_none p.list.now.letters.table.now p.list.now.bytes.now p.from w p.count)
-    ∙ ap (index_from p.list.now.letters.table.now p.list.now.bytes.now p.from p.count w) (sym e) ∙ c.loop-word.invariant.1
+returns c = c.find_from.ensures

@@ -6,26 +6,24 @@ use Rattle.hashing.proofs.slots.Slots.chain.Goals as goal
 
 pub bounds-self-bucket : goal.bounds-self-bucket
 bounds-self-bucket c =
-    let list = c.args.list.now in
     omega (
       arith,
       c.loop-word.invariant.0.bucket (c.loop-word.word - 1) (omega arith),
-      bucket_below (spelled_at list.letters.table.now list.bytes.now c.args.from (c.loop-word.word - 1)),
+      bucket_below (spelled_at c.args.letters.now.table.now c.args.list.now c.args.from (c.loop-word.word - 1)),
     )
 
 pub bounds-self-bucket-in-loop-word : goal.bounds-self-bucket-in-loop-word
 bounds-self-bucket-in-loop-word c =
-    let list = c.args.list.now in
     omega (
       arith,
       c.loop-word.invariant.0.bucket (c.loop-word.word - 1) (omega arith),
-      bucket_below (spelled_at list.letters.table.now list.bytes.now c.args.from (c.loop-word.word - 1)),
+      bucket_below (spelled_at c.args.letters.now.table.now c.args.list.now c.args.from (c.loop-word.word - 1)),
     )
 
 pub loop-word-preserved : goal.loop-word-preserved
 loop-word-preserved c =
-    let table = c.args.list.now.letters.table.now in
-    let list = c.args.list.now.bytes.now in
+    let table = c.args.letters.now.table.now in
+    let list = c.args.list.now in
     let loop = c.loop-word in
     let h : 0 < loop.word = omega arith in
     let e : loop.word - 1 + 1 ≡ loop.word = omega arith in (

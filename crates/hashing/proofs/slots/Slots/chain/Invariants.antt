@@ -5,6 +5,6 @@ use Rattle.hashing.proofs.slots.Slots.chain.Given as goal
 
 abbrev pub invariant-loop-word : goal.invariant-loop-word
 invariant-loop-word l =
-    Buckets l.list.letters.table.now l.list.bytes.now l.from l.word l.self.links
-    × Chains l.list.letters.table.now l.list.bytes.now l.from l.count l.word l.self.heads l.self.links
+    Buckets l.letters.table.now l.list l.from l.word l.self.links
+    × Chains l.letters.table.now l.list l.from l.count l.word l.self.heads l.self.links
     × (l.self.starts ≡ l.fn.self.starts)

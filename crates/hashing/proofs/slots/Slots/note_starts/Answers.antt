@@ -7,12 +7,12 @@ use Rattle.hashing.proofs.slots.Slots.note_starts.Goals as goal
 
 pub overflow_cast-self : goal.overflow_cast-self
 overflow_cast-self c =
-    omega (arith, c.scan_word-scan.ensures.1, bucket_below (run_at c.args.list.now.letters.table.now c.args.list.now.bytes.now c.loop-word.at))
+    omega (arith, c.scan_word-scan.ensures.1, bucket_below (run_at c.args.letters.now.table.now c.args.list.now c.loop-word.at))
 
 pub word_start-at-requires : goal.word_start-at-requires
 word_start-at-requires c =
-    let table = c.args.list.now.letters.table.now in
-    let list = c.args.list.now.bytes.now in
+    let table = c.args.letters.now.table.now in
+    let list = c.args.list.now in
     let loop = c.loop-word in
     let h : loop.word < length (words_at table list c.args.from) = omega (arith, c.loop-word-test.true, c.requires.2) in
     let n = next_left table list c.args.from loop.at loop.word loop.invariant.2 loop.invariant.3 h in
@@ -20,8 +20,8 @@ word_start-at-requires c =
 
 pub loop-word-preserved : goal.loop-word-preserved
 loop-word-preserved c =
-    let table = c.args.list.now.letters.table.now in
-    let list = c.args.list.now.bytes.now in
+    let table = c.args.letters.now.table.now in
+    let list = c.args.list.now in
     let from = c.args.from in
     let loop = c.loop-word in
     let h : loop.word < length (words_at table list from) = omega (arith, c.loop-word-test.true, c.requires.2) in

@@ -6,8 +6,8 @@ use Rattle.hashing.proofs.slots.Slots.note_starts.Given as goal
 
 abbrev pub invariant-loop-word : goal.invariant-loop-word
 invariant-loop-word l =
-    Starts l.list.letters.table.now l.list.bytes.now l.from l.word l.self.starts
-    × Buckets l.list.letters.table.now l.list.bytes.now l.from l.word l.self.links
-    × WordBegins l.list.letters.table.now l.list.bytes.now l.at
-    × (words_at l.list.letters.table.now l.list.bytes.now l.at ≡ drop l.word (words_at l.list.letters.table.now l.list.bytes.now l.from))
+    Starts l.letters.table.now l.list l.from l.word l.self.starts
+    × Buckets l.letters.table.now l.list l.from l.word l.self.links
+    × WordBegins l.letters.table.now l.list l.at
+    × (words_at l.letters.table.now l.list l.at ≡ drop l.word (words_at l.letters.table.now l.list l.from))
     × (l.self.heads ≡ l.fn.self.heads)

@@ -1,4 +1,4 @@
--- `list_tables::ListTables::make_list` meets its contract: the words are noted and counted, too many distinct ones are refused, and the others are sorted
+-- `list_tables::make_in_tables` meets its contract: the words are noted and counted, too many distinct ones are refused, and the others are sorted
 -- and written. Assumes nothing.
 use Rattle.std.proofs.Common.{◌≤◌, ◌<◌, length, refl, sym, ◌∙◌, ap, arith}
 use Rattle.base.specs.Answers.{refused}
@@ -12,8 +12,8 @@ use Rattle.list_tables.proofs.Noted.{made_words_lem, noted_below, counts_sortabl
 use Rattle.list_writing.proofs.AllNoted.{all_noted}
 use Rattle.word_places.specs.Places.{TextCounted}
 use Rattle.word_places.proofs.Noted.{text_counted}
-use Rattle.list_tables.proofs.ListTables.make_list.Goals as goal
-use Rattle.list_tables.proofs.ListTables.make_list.Goals.{After-note_words-size, After-count_places-words}
+use Rattle.list_tables.proofs.make_in_tables.Goals as goal
+use Rattle.list_tables.proofs.make_in_tables.Goals.{After-note_words-size, After-count_places-words}
 
 few : (c : After-note_words-size) → c.note_words-size.result ≤ max_text_words
 few c =
