@@ -1,12 +1,12 @@
 -- Laws of reading a stream byte by byte. Assumes nothing.
-use Prim.Native.Nat.{ℕ, zero, suc, ◌+◌, ◌*◌, ◌-◌, ◌≤◌, ◌<◌}
+use Prim.Native.Nat.{ℕ, zero, suc, max, ◌+◌, ◌*◌, ◌-◌, ◌≤◌, ◌<◌}
 use mathlib.Core.Path.{◌≡◌, refl, sym, ap, ap₂, ◌∙◌}
 use mathlib.Core.Bool.{Bool, true, false, cond, not, false≢true}
 use mathlib.Core.List.{List, [], ◌∷◌}
 use native.Mathlib.Numerals.{add-one}
 use native.Mathlib.Omega.{arith}
 use native.Mathlib.Nat.{mul-le-mul_left}
-use borrow.Author.Tests.{lt-ltb, leb-false}
+use borrow.Author.Tests.{lt-ltb, lt-leb, leb-false}
 use lib.Dec.{ltb}
 use lib.ListN.{length, take, drop, get_or, set, length-set, length-drop, drop_of_length-le}
 use lib.Seq.{drop-cons, take_all, set-set}
@@ -145,6 +145,41 @@ begins_short s (suc n) (b ∷ bs) h = go (begins_short s n bs (omega arith)) (cl
 pub three_short : (s : ℕ) (bs : List ℕ) → length bs < 3 → three_open s bs ≡ false
 three_short s [] h = refl
 three_short s (b ∷ bs) h = ap (λ (t : Bool). cond t true (three_open s bs)) (begins_short s 3 (b ∷ bs) h) ∙ three_short s bs (omega arith)
+
+-- three in a row from a position on
+module _ (s : ℕ) (bytes : List ℕ) (at : ℕ) where
+  pub three_end : length bytes ≤ at + 2 → three_open s (drop at bytes) ≡ false
+  three_end h = three_short s (drop at bytes) (omega (arith, length-drop at bytes))
+
+  module _ (h : at + 2 < length bytes) where
+    -- the three bytes
+    next : drop (at + 1) bytes ≡ get_or bytes (at + 1) 0 ∷ get_or bytes (at + 2) 0 ∷ drop (at + 3) bytes
+    next =
+        let two : at + 2 ≡ suc (at + 1) = omega arith in
+        let three : at + 3 ≡ suc (at + 2) = omega arith in
+        drop-cons bytes (at + 1) 0 (omega arith)
+        ∙ ap (λ (r : List ℕ). get_or bytes (at + 1) 0 ∷ r) (ap (λ (k : ℕ). drop k bytes) (sym two) ∙ drop-cons bytes (at + 2) 0 h ∙ ap (λ (k : ℕ). get_or bytes (at + 2) 0 ∷ drop k bytes) (sym three))
+
+    here : drop at bytes ≡ get_or bytes at 0 ∷ get_or bytes (at + 1) 0 ∷ get_or bytes (at + 2) 0 ∷ drop (at + 3) bytes
+    here = drop-cons bytes at 0 (omega arith) ∙ ap (λ (r : List ℕ). get_or bytes at 0 ∷ r) (ap (λ (k : ℕ). drop k bytes) (sym (add-one at)) ∙ next)
+
+    -- the greatest of the three continues
+    pub three_here : max (get_or bytes at 0) (max (get_or bytes (at + 1) 0) (get_or bytes (at + 2) 0)) < continuing s → three_open s (drop at bytes) ≡ true
+    three_here l = rw (here, lt-leb (continuing s) (get_or bytes at 0) (omega arith), lt-leb (continuing s) (get_or bytes (at + 1) 0) (omega arith), lt-leb (continuing s) (get_or bytes (at + 2) 0) (omega arith))
+
+    -- it closes
+    pub three_later : continuing s ≤ max (get_or bytes at 0) (max (get_or bytes (at + 1) 0) (get_or bytes (at + 2) 0)) → three_open s (drop at bytes) ≡ three_open s (drop (at + 1) bytes)
+    three_later l =
+        ap (three_open s) here
+        ∙ ap (λ (t : Bool). cond t true (three_open s (get_or bytes (at + 1) 0 ∷ get_or bytes (at + 2) 0 ∷ drop (at + 3) bytes)))
+        (go (closes s (get_or bytes at 0)) (closes s (get_or bytes (at + 1) 0)) (closes s (get_or bytes (at + 2) 0)) refl refl refl)
+        ∙ ap (three_open s) (sym next)
+      where
+        go : (t u v : Bool) → closes s (get_or bytes at 0) ≡ t → closes s (get_or bytes (at + 1) 0) ≡ u → closes s (get_or bytes (at + 2) 0) ≡ v → cond t false (cond u false (cond v false true)) ≡ false
+        go true u v p q r = refl
+        go false true v p q r = refl
+        go false false true p q r = refl
+        go false false false p q r = absurd (omega (arith, leb-false (continuing s) _ p, leb-false (continuing s) _ q, leb-false (continuing s) _ r))
 
 -- ---- the text of a stream, byte by byte
 

@@ -14,10 +14,14 @@ use Rattle.base.proofs.Tests.{same_or_not, and_true, and_never, or_left, or_righ
 use Rattle.lexicon.specs.Letters.{letter_in, keeps, is_entry, keeps_entries, has_letter}
 
 module _ (table : List ℕ) where
-  -- an entry that is 0 or kept passes
+  -- an entry that is 0 or kept passes, another does not
   pub zero_passes : (x : ℕ) → x ≡ 0 → is_entry table x ≡ true
   unfolding is_entry
   zero_passes x z = or_left (eqb x 0) (keeps table x) (eq-eqb x 0 z)
+
+  pub other_passes : (x : ℕ) → (x ≡ 0 → ⊥) → is_entry table x ≡ keeps table x
+  unfolding is_entry
+  other_passes x n = ap (λ (t : Bool). t || keeps table x) (ne_eqb x 0 n)
 
   pub kept_passes : (x : ℕ) → letter_in table x ≡ x → is_entry table x ≡ true
   unfolding is_entry

@@ -5,7 +5,7 @@ use mathlib.Core.Bool.{Bool, true, false, not, ◌&&◌, ◌||◌, false≢true}
 use mathlib.Core.Logic.{◌⊎◌, inl, inr}
 use mathlib.Core.List.{List}
 use native.Mathlib.Omega.{arith}
-use borrow.Author.Tests.{eqb-true, eq-eqb}
+use borrow.Author.Tests.{eqb-true, eq-eqb, ne_eqb}
 use lib.Dec.{eqb}
 use lib.ListN.{length}
 use Rattle.base.specs.Answers.{accepted, refused, is_accepted}
@@ -32,6 +32,19 @@ module _ (table : List ℕ) where
   is_table_lem s c = rw (eq-eqb (length table) 256 s, eq-eqb (letter_in table line_feed) 0 c) (go (keeps_entries table))
     where
       go : (k : Bool) → k && true && has_letter table ≡ k && has_letter table
+      go true = refl
+      go false = refl
+
+  -- one that does not hold is enough
+  pub other_size : (length table ≡ 256 → ⊥) → is_table table ≡ false
+  unfolding is_table
+  other_size n = rw (ne_eqb (length table) 256 n)
+
+  pub line_feed_kept : (letter_in table line_feed ≡ 0 → ⊥) → is_table table ≡ false
+  unfolding is_table
+  line_feed_kept n = rw (ne_eqb (letter_in table line_feed) 0 n) (go (eqb (length table) 256 && keeps_entries table))
+    where
+      go : (k : Bool) → k && false && has_letter table ≡ false
       go true = refl
       go false = refl
 

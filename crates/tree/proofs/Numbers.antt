@@ -155,3 +155,7 @@ module _ (s : ℕ) (within : Closing s) where
   -- of which there are at most 1 + 255 + 255 × 255, with one closing value
   pub levels_most : max_nodes s ≤ 65281
   levels_most = omega (arith, mul-le-mul most_continuing most_continuing)
+
+  -- so that the numbers of their children are small
+  pub children_most : (k : ℕ) → k < max_nodes s → continuing s * k ≤ 16646400
+  children_most k h = omega (arith, levels_most, mul-le-mul_right k most_continuing)
