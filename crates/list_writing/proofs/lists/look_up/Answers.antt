@@ -1,10 +1,9 @@
 -- `list_writing::lists::look_up` meets its contract. Assumes nothing.
-use Rattle.std.proofs.Common.{◌≡◌, ℕ, ◌<◌, List, map, length, get_or, take, sym, ◌∙◌, ap, arith}
+use Rattle.std.proofs.Common.{◌≡◌, ℕ, ◌<◌, map, length, get_or, take, sym, ◌∙◌, ap, arith}
 use Rattle.std.proofs.Math.ListN.{length-map}
 use Rattle.std.proofs.Math.Seq.{take_all, length-take-le, get_or-take}
 use Rattle.base.proofs.Fronts.{front_none, front_next}
 use Rattle.base.proofs.Lists.{get_d_map}
-use Rattle.base.specs.Answers.{front}
 use Rattle.list_writing.proofs.lists.look_up.Goals as goal
 
 pub loop-i-init : goal.loop-i-init
