@@ -45,14 +45,13 @@ use given::{Lines, Numbers};
 use questions::Question;
 use state::State;
 use std::io;
-use std::io::Read;
 
 // The most bytes of the input; what goes past them is left out.
-const MOST_INPUT: u64 = 65536;
+const MOST_INPUT: usize = 65536;
 
 // Does what a line asks for.
 fn obey(
-    rt: &(impl Print + AllocGlobal),
+    rt: &impl Print,
     state: &mut State,
     command: Command,
     line: &[u8],
@@ -73,7 +72,7 @@ fn obey(
         Command::Values => state.reshape(numbers),
         Command::Modify => state.modify(numbers),
         Command::Check => printing::answered(rt, state.small.check())?,
-        Command::Words => state.lend(rt.alloc(), numbers)?,
+        Command::Words => state.lend(numbers),
         Command::WordAt => shown::ask(rt, state, Question::word_at(x))?,
         Command::OccurrencesBelow => shown::ask(rt, state, Question::occurrences_below(w, y))?,
         Command::PlaceOf => shown::ask(rt, state, Question::place_of(w, y))?,
@@ -82,13 +81,13 @@ fn obey(
         }
         Command::Phrase => shown::ask(rt, state, Question::phrase(x, y))?,
         Command::Ask => shown::ask(rt, state, shown::any_question(numbers))?,
-        Command::Group => state.group(rt.alloc(), numbers)?,
+        Command::Group => state.group(numbers),
         Command::Join => state.join(),
         Command::Yield => shown::summary(rt, state, numbers)?,
         Command::Quote => shown::quote(rt, state, numbers)?,
         Command::Open => state.open(numbers),
         Command::Page => state.turn(rt, numbers)?,
-        Command::List => state.take_list(rt.alloc(), line)?,
+        Command::List => state.take_list(line),
         Command::Text => shown::text(rt, state, line, numbers)?,
         Command::Known => shown::known(rt, state, line)?,
         Command::From => lists::from(rt, line, numbers)?,
@@ -99,8 +98,8 @@ fn obey(
 }
 
 // Runs the case of a line.
-fn run_line(rt: &(impl Print + AllocGlobal), state: &mut State, line: &[u8]) -> io::Result<()> {
-    let numbers = Numbers::of(rt.alloc(), line)?;
+fn run_line(rt: &impl Print, state: &mut State, line: &[u8]) -> io::Result<()> {
+    let numbers = given::numbers_of(line);
     printing::words(rt, line)?;
     if let Some(command) = Command::of(line) {
         obey(rt, state, command, line, &numbers)?;
@@ -109,8 +108,8 @@ fn run_line(rt: &(impl Print + AllocGlobal), state: &mut State, line: &[u8]) -> 
 }
 
 // Runs the cases of all lines, each over the state that the one before it left.
-fn run(rt: &(impl Print + AllocGlobal), input: &[u8]) -> io::Result<()> {
-    let mut state = State::first(rt.alloc());
+fn run(rt: &impl Print, input: &[u8]) -> io::Result<()> {
+    let mut state = State::first();
     for line in Lines::of(input) {
         run_line(rt, &mut state, line)?;
     }
@@ -118,7 +117,7 @@ fn run(rt: &(impl Print + AllocGlobal), input: &[u8]) -> io::Result<()> {
 }
 
 fn main(rt: HostRuntime) -> io::Result<()> {
-    let mut input = Vec::new(rt.alloc());
-    rt.reader().take(MOST_INPUT).read_to_end(&mut input)?;
-    run(&rt, &input)
+    let mut input = [0u8; MOST_INPUT];
+    let size = reading::read_full(&mut rt.reader(), &mut input)?;
+    run(&rt, &input[..size])
 }

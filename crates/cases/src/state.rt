@@ -1,21 +1,23 @@
 // What the lines of the cases build up: the index, the lent words, the document starts, the state of
 // the listing, and the word list.
-use given::Numbers;
+use given::{Numbers, Ranks, Spelled};
 use listing::Listing;
 use small_indexes::{SmallIndex, shape_of};
-use std::alloc::{AllocError, Global};
 use std::io;
+
+// The most lines of a page.
+const MOST_LINES: usize = 20;
 
 // The index that calls are lent, the lent words, the document starts and whether calls bring them,
 // the state of the listing, and the word list. Calls that count by document bring the starts always.
-#[derive(Drop)]
+#[derive(Clone, Copy)]
 pub struct State {
     pub small: SmallIndex,
-    pub words: Vec<u32>,
-    pub documents: Vec<u32>,
+    pub words: Ranks,
+    pub documents: Ranks,
     brought: bool,
     listing: Listing,
-    pub list: Vec<u8>,
+    pub list: Spelled,
 }
 
 // Changes an element of an array, where there is one.
@@ -33,14 +35,14 @@ fn yes_or_no(yes: bool) -> &'static str {
 impl State {
     // The index of the text of no words with V 1, no lent words, no document starts, an opened
     // listing, and no list.
-    pub fn first(alloc: Global) -> State {
+    pub fn first() -> State {
         State {
             small: SmallIndex::of(1, &[], 1, 0),
-            words: Vec::new(alloc),
-            documents: Vec::new(alloc),
+            words: Ranks::none(),
+            documents: Ranks::none(),
             brought: false,
             listing: Listing::open(),
-            list: Vec::new(alloc),
+            list: Spelled::none(),
         }
     }
 
@@ -54,10 +56,10 @@ impl State {
     }
 
     // Builds the index of a text, and prints the answer and the node bytes.
-    pub fn build(&mut self, rt: &(impl Print + AllocGlobal), numbers: &Numbers) -> io::Result<()> {
+    pub fn build(&mut self, rt: &impl Print, numbers: &Numbers) -> io::Result<()> {
         let shape = shape_of(numbers.at(0), numbers.at(1), numbers.at(2));
-        let text = numbers.ranks(rt.alloc(), 3)?;
-        self.small = SmallIndex::built(shape, &text, self.small.sizes);
+        let text = numbers.ranks(3);
+        self.small = SmallIndex::built(shape, text.as_slice(), self.small.sizes);
         printing::answered_with_bytes(rt, self.small.answer, &self.small.bytes)
     }
 
@@ -88,16 +90,14 @@ impl State {
     }
 
     // Lends other words.
-    pub fn lend(&mut self, alloc: Global, numbers: &Numbers) -> Result<(), AllocError> {
-        self.words = numbers.ranks(alloc, 0)?;
-        Ok(())
+    pub fn lend(&mut self, numbers: &Numbers) {
+        self.words = numbers.ranks(0);
     }
 
     // Brings document starts from here on.
-    pub fn group(&mut self, alloc: Global, numbers: &Numbers) -> Result<(), AllocError> {
-        self.documents = numbers.ranks(alloc, 0)?;
+    pub fn group(&mut self, numbers: &Numbers) {
+        self.documents = numbers.ranks(0);
         self.brought = true;
-        Ok(())
     }
 
     // Brings none from here on.
@@ -117,22 +117,17 @@ impl State {
     }
 
     // Turns a page of so many lines, at most 20, and prints what the call returns and leaves.
-    pub fn turn(&mut self, rt: &(impl Print + AllocGlobal), numbers: &Numbers) -> io::Result<()> {
+    pub fn turn(&mut self, rt: &impl Print, numbers: &Numbers) -> io::Result<()> {
         let start = numbers.at(0);
         let count = numbers.at(1);
-        let mut lines = vec![in rt.alloc(); 9u32; numbers.at(2).min(20)]?;
+        let words = self.words.as_slice();
+        let mut lines = [9u32; MOST_LINES];
+        let lines = &mut lines[..numbers.at(2).min(MOST_LINES)];
         let page = match self.starts() {
-            Some(starts) => self.small.page_in_documents(
-                self.listing,
-                starts,
-                &self.words,
-                start,
-                count,
-                &mut lines,
-            ),
-            None => self
+            Some(starts) => self
                 .small
-                .page(self.listing, &self.words, start, count, &mut lines),
+                .page_in_documents(self.listing, starts, words, start, count, lines),
+            None => self.small.page(self.listing, words, start, count, lines),
         };
         self.listing = page.listing;
         printing::answered(rt, page.answer)?;
@@ -140,12 +135,11 @@ impl State {
         let next = page.listing.next;
         let finished = yes_or_no(page.listing.finished);
         print!(rt; ", more {more}, next {next}, finished {finished}:")?;
-        printing::ranks(rt, &lines)
+        printing::ranks(rt, lines)
     }
 
     // Takes another word list.
-    pub fn take_list(&mut self, alloc: Global, line: &[u8]) -> Result<(), AllocError> {
-        self.list = given::spelled_by(alloc, line, 1)?;
-        Ok(())
+    pub fn take_list(&mut self, line: &[u8]) {
+        self.list = given::spelled_by(line, 1);
     }
 }

@@ -4,8 +4,6 @@
 ghost use Rattle.std.specs.Prelude.{◌≤◌, length};
 ghost use Rattle.std.specs.Iterator.{at_most};
 
-use std::alloc::{AllocError, Global};
-
 // The most numbers of a line.
 pub const MOST: usize = 32;
 
@@ -33,6 +31,24 @@ fn with_digit(value: usize, base: usize, digit: usize) -> usize {
         .unwrap_or(value)
 }
 
+// The number that bytes spell. Each blank in them begins decimal digits, and each x hexadecimal ones.
+fn number_of(bytes: &[u8]) -> usize {
+    let mut value = 0;
+    let mut base = 10;
+    for byte in bytes {
+        match byte {
+            b' ' => base = 10,
+            b'x' => base = 16,
+            _ => {
+                if let Some(digit) = digit(*byte) {
+                    value = with_digit(value, base, usize::from(digit));
+                }
+            }
+        }
+    }
+    value
+}
+
 // A number as 32 bits.
 pub fn narrow(n: usize) -> u32 {
     (n % 4294967296) as u32
@@ -43,62 +59,40 @@ pub fn low_byte(n: usize) -> u8 {
     (n % 256) as u8
 }
 
-// The numbers of a line in their order, the base of the last, and whether one is negative. Numbers past
-// the most there is room for are left out, and so are digits past 64 bits.
-#[derive(Drop)]
+// The numbers of a line in their order, how many there are, and whether one is negative. A number past
+// the most there is room for gives its digits to the last; digits past 64 bits are left out.
+#[derive(Clone, Copy)]
 pub struct Numbers {
-    values: Vec<usize>,
-    hexadecimal: bool,
+    values: [usize; MOST],
+    count: usize,
     negative: bool,
 }
 
 impl Numbers {
     // The numbers of a line, each behind a blank.
-    pub fn of(alloc: Global, line: &[u8]) -> Result<Numbers, AllocError> {
+    pub fn of(line: &[u8]) -> Numbers {
         let mut all = Numbers {
-            values: Vec::new(alloc),
-            hexadecimal: false,
-            negative: false,
+            values: [0; MOST],
+            count: 0,
+            negative: line.contains(&b'-'),
         };
-        for byte in line {
-            all.read(*byte)?;
+        for bytes in line.splitn(MOST + 1, |byte| *byte == b' ').skip(1) {
+            all.push(number_of(bytes));
         }
-        Ok(all)
+        all
     }
 
-    // Reads one byte of the line more.
-    fn read(&mut self, byte: u8) -> Result<(), AllocError> {
-        match byte {
-            b' ' => self.begin()?,
-            b'x' => self.hexadecimal = true,
-            b'-' => self.negative = true,
-            _ => self.grow(byte),
-        }
-        Ok(())
-    }
-
-    // Begins a number.
-    fn begin(&mut self) -> Result<(), AllocError> {
-        self.hexadecimal = false;
-        if self.values.len() < MOST {
-            self.values.push(0)?;
-        }
-        Ok(())
-    }
-
-    // Gives the last number a digit more; a byte that is no digit leaves it.
-    fn grow(&mut self, byte: u8) {
-        let base = if self.hexadecimal { 16 } else { 10 };
-        if let Some(digit) = digit(byte) {
-            if let Some(last) = self.values.last_mut() {
-                *last = with_digit(*last, base, usize::from(digit));
-            }
+    // Puts a number behind the others, where there is room.
+    fn push(&mut self, number: usize) {
+        if let Some(place) = self.values.get_mut(self.count) {
+            *place = number;
+            self.count += 1;
         }
     }
 
     // The numbers in their order.
     pub fn values(&self) -> &[usize] {
-        self.values.as_slice()
+        self.values.get(..self.count).unwrap_or(&[])
     }
 
     // Number i, from 0 on; 0 where there is none.
@@ -120,22 +114,97 @@ impl Numbers {
     }
 
     // The numbers from index `from` on as ranks.
-    pub fn ranks(&self, alloc: Global, from: usize) -> Result<Vec<u32>, AllocError> {
-        self.values
-            .iter()
-            .skip(from)
-            .map(|n| narrow(*n))
-            .collect(alloc)
+    pub fn ranks(&self, from: usize) -> Ranks {
+        let mut all = Ranks::none();
+        for number in self.values().iter().skip(from) {
+            all.push(narrow(*number));
+        }
+        all
     }
 
     // The numbers from index `from` on as bytes.
-    pub fn bytes(&self, alloc: Global, from: usize) -> Result<Vec<u8>, AllocError> {
-        self.values
-            .iter()
-            .skip(from)
-            .map(|n| low_byte(*n))
-            .collect(alloc)
+    pub fn bytes(&self, from: usize) -> Spelled {
+        let mut all = Spelled::none();
+        for number in self.values().iter().skip(from) {
+            all.push(low_byte(*number));
+        }
+        all
     }
+}
+
+// The numbers of a line, each behind a blank.
+pub fn numbers_of(line: &[u8]) -> Numbers {
+    Numbers::of(line)
+}
+
+// Ranks, and how many there are.
+#[derive(Clone, Copy)]
+pub struct Ranks {
+    values: [u32; MOST],
+    count: usize,
+}
+
+impl Ranks {
+    // No ranks.
+    pub fn none() -> Ranks {
+        Ranks {
+            values: [0; MOST],
+            count: 0,
+        }
+    }
+
+    // Puts a rank behind the others, where there is room.
+    fn push(&mut self, rank: u32) {
+        if let Some(place) = self.values.get_mut(self.count) {
+            *place = rank;
+            self.count += 1;
+        }
+    }
+
+    // The ranks in their order.
+    pub fn as_slice(&self) -> &[u32] {
+        self.values.get(..self.count).unwrap_or(&[])
+    }
+}
+
+// The numbers from index `from` on as ranks.
+pub fn ranks_of(numbers: Numbers, from: usize) -> Ranks {
+    numbers.ranks(from)
+}
+
+// Bytes that a line gives, and how many there are. Those past the most there is room for are left out.
+#[derive(Clone, Copy)]
+pub struct Spelled {
+    bytes: [u8; MOST_BYTES],
+    count: usize,
+}
+
+impl Spelled {
+    // No bytes.
+    pub fn none() -> Spelled {
+        Spelled {
+            bytes: [0; MOST_BYTES],
+            count: 0,
+        }
+    }
+
+    // Puts a byte behind the others, where there is room.
+    fn push(&mut self, byte: u8) {
+        if let Some(place) = self.bytes.get_mut(self.count) {
+            *place = byte;
+            self.count += 1;
+        }
+    }
+
+    // The bytes in their order.
+    pub fn as_slice(&self) -> &[u8] {
+        self.bytes.get(..self.count).unwrap_or(&[])
+    }
+}
+
+// The numbers from index `from` on as bytes.
+pub fn bytes_of(numbers: Numbers, from: usize) -> Spelled {
+    numbers.bytes(from)
 }
 
 // The value of a byte as a digit; 0 where it is none.
@@ -146,9 +215,9 @@ fn digit_or_zero(byte: u8) -> u8 {
 // What is left of bytes that are spelled out: after \ two hexadecimal digits make one, and a \ without
 // two bytes behind it ends them.
 #[derive(Drop)]
-struct Spelled<'a>(&'a [u8]);
+struct Spelling<'a>(&'a [u8]);
 
-impl<'a> Iterator for Spelled<'a> {
+impl<'a> Iterator for Spelling<'a> {
     type Item = u8;
 
     ghost remaining = { λ s. at_most (length s.0.now) };
@@ -169,12 +238,14 @@ impl<'a> Iterator for Spelled<'a> {
 }
 
 // The bytes that a line spells out behind its blank with this number.
-pub fn spelled_by(alloc: Global, line: &[u8], blanks: usize) -> Result<Vec<u8>, AllocError> {
+pub fn spelled_by(line: &[u8], blanks: usize) -> Spelled {
     let parts = blanks.saturating_add(1);
-    let spelled = line.splitn(parts, |byte| *byte == b' ').nth(blanks);
-    Spelled(spelled.unwrap_or(&[]))
-        .take(MOST_BYTES)
-        .collect(alloc)
+    let bytes = line.splitn(parts, |byte| *byte == b' ').nth(blanks);
+    let mut all = Spelled::none();
+    for byte in Spelling(bytes.unwrap_or(&[])) {
+        all.push(byte);
+    }
+    all
 }
 
 // Where the line ends that begins at a position: at the next 0A, or at the end of the input.

@@ -56,22 +56,6 @@ impl fmt::Display for Checked {
     }
 }
 
-// Ranks, places or counts, a blank between.
-#[derive(Drop)]
-struct Numbers<'a>(&'a [u32]);
-
-impl fmt::Display for Numbers<'_> {
-    fn fmt<W: fmt::Write>(&self, f: &mut fmt::Formatter<W>) -> fmt::Result {
-        for (i, number) in self.0.iter().enumerate() {
-            if i != 0 {
-                write!(f, " ")?;
-            }
-            write!(f, "{number}")?;
-        }
-        Ok(())
-    }
-}
-
 // What follows a page.
 fn behind(more: bool) -> &'static str {
     if more { "and more" } else { "and the end" }
@@ -85,6 +69,13 @@ fn line(
     otherwise: &str,
 ) -> io::Result<()> {
     print!(rt; "{tried}: {came} ({otherwise})\n")
+}
+
+// Prints a line of which ranks, places or counts came.
+fn line_of_ranks(rt: &impl Print, tried: &str, came: &[u32], otherwise: &str) -> io::Result<()> {
+    print!(rt; "{tried}:")?;
+    printing::ranks(rt, came)?;
+    print!(rt; " ({otherwise})\n")
 }
 
 // Checks the arrays with these bytes and superblock counters.
@@ -158,28 +149,29 @@ fn read_words(rt: &impl Print) -> io::Result<()> {
 // the words at a place, and neighbours to the left and to the right.
 fn count_words(rt: &impl Print) -> io::Result<()> {
     let small = SmallIndex::of(130, &[0, 128, 0, 129, 128], 2, 8);
+    let words = [129, 129];
     line(
         rt,
         "How often the word 128 stands in 0 128 0 129 128",
-        Outcome(small.ask(&[], Question::occurrences_below(128, 5))),
+        Outcome(small.ask(&words, Question::occurrences_below(128, 5))),
         "4: its last byte is counted outside its node",
     )?;
     line(
         rt,
         "How often the phrase 129 129 stands there",
-        Outcome(small.ask(&[129, 129], Question::phrase(0, 2))),
+        Outcome(small.ask(&words, Question::phrase(0, 2))),
         "1: a first byte in common is taken for the whole word",
     )?;
     line(
         rt,
         "How often 129 has 0 next to it on the left there",
-        Outcome(small.ask(&[], Question::neighbours(129, 0, -1))),
+        Outcome(small.ask(&words, Question::neighbours(129, 0, -1))),
         "0: left is taken for right",
     )?;
     line(
         rt,
         "How often 0 has 129 next to it on the right there",
-        Outcome(small.ask(&[], Question::neighbours(0, 129, 1))),
+        Outcome(small.ask(&words, Question::neighbours(0, 129, 1))),
         "not the same number: the two sides are counted differently",
     )
 }
@@ -189,18 +181,20 @@ fn read_passage(rt: &impl Print) -> io::Result<()> {
     let small = SmallIndex::of(16513, &[127, 128, 16511, 16512], 130, 8);
     let mut ranks = [9u32; 3];
     let count = Outcome(small.passage(1, &mut ranks));
-    let ranks = Numbers(&ranks);
-    print!(rt; "The three words from place 1 on are read as one passage: {ranks}, {count} words ")?;
-    print!(rt; "(not 128 16511 16512 and 3: a passage is not the words one by one)\n")
+    print!(rt; "The three words from place 1 on are read as one passage:")?;
+    printing::ranks(rt, &ranks)?;
+    print!(rt;
+        ", {count} words (not 128 16511 16512 and 3: a passage is not the words one by one)\n"
+    )
 }
 
 // Prints the place on a page of one line of the phrase 7 7, and whether more follow.
 fn page_of_one(rt: &impl Print, small: SmallIndex, state: Listing) -> io::Result<Listing> {
     let mut lines = [9u32; 1];
     let page = small.page(state, &[7, 7], 0, 2, &mut lines);
-    let lines = Numbers(&lines);
     let behind = behind(page.more);
-    print!(rt; " {lines} {behind}")?;
+    printing::ranks(rt, &lines)?;
+    print!(rt; " {behind}")?;
     Ok(page.listing)
 }
 
@@ -220,10 +214,10 @@ fn list_phrase(rt: &impl Print) -> io::Result<()> {
     let small = SmallIndex::of(8, &[7; 4], 1, 4);
     let mut lines = [9u32; 3];
     small.page(Listing::open(), &[7, 7], 0, 2, &mut lines);
-    line(
+    line_of_ranks(
         rt,
         "The phrase 7 7, which overlaps itself, is listed in 7 7 7 7 at every place",
-        Numbers(&lines),
+        &lines,
         "without 1: the search moves on by the phrase's length",
     )?;
     print!(rt; "On pages of one line it is listed at")?;
@@ -249,13 +243,14 @@ fn list_places(rt: &impl Print) -> io::Result<()> {
     let page = small.page(Listing::open(), &[], 0, 0, &mut lines);
     let mut last = [9u32; 1];
     small.page(page.listing, &[], 0, 0, &mut last);
-    let lines = Numbers(&lines);
-    let last = Numbers(&last);
     print!(rt;
         "Before a word is typed, the phrase of no words is listed there on pages of four and "
     )?;
-    print!(rt; "one: {lines}, {last} ")?;
-    print!(rt; "(not 0 1 2 3, 4: a place is left out, or the end of the text is none)\n")?;
+    print!(rt; "one:")?;
+    printing::ranks(rt, &lines)?;
+    print!(rt; ",")?;
+    printing::ranks(rt, &last)?;
+    print!(rt; " (not 0 1 2 3, 4: a place is left out, or the end of the text is none)\n")?;
     line(
         rt,
         "How often it is counted",
@@ -294,10 +289,10 @@ fn list_in_documents(rt: &impl Print) -> io::Result<()> {
     let starts = [0, 2];
     let mut lines = [9u32; 2];
     small.page_in_documents(Listing::open(), &starts, &[7, 7], 0, 2, &mut lines);
-    line(
+    line_of_ranks(
         rt,
         "With a document that starts at place 2, the phrase 7 7 is listed in 7 7 7 7 at",
-        Numbers(&lines),
+        &lines,
         "with 1: a phrase that begins in one document and ends in the next is listed",
     )?;
     line(
@@ -308,10 +303,10 @@ fn list_in_documents(rt: &impl Print) -> io::Result<()> {
     )?;
     let mut counts = [9u32; 2];
     small.summary(&starts, &[7, 7], 0, 2, &mut counts);
-    line(
+    line_of_ranks(
         rt,
         "How often it stands in each of the two documents",
-        Numbers(&counts),
+        &counts,
         "not 1 1: a count is given to another document",
     )?;
     line(
@@ -379,10 +374,10 @@ fn make_list(rt: &impl Print) -> io::Result<()> {
     printing::bytes(rt, &list)?;
     print!(rt; " (not c, b and a, each closed by 0A: ")?;
     print!(rt; "the words are not in the order of their frequency)\n")?;
-    let ranks = Numbers(&ranks);
     let words = made.words;
-    print!(rt; "The words of that text as ranks in its list: {ranks}, {words} words ")?;
-    print!(rt; "(not 0 1 1 0 2 and 5: the ranks are not those of the list)\n")?;
+    print!(rt; "The words of that text as ranks in its list:")?;
+    printing::ranks(rt, &ranks)?;
+    print!(rt; ", {words} words (not 0 1 1 0 2 and 5: the ranks are not those of the list)\n")?;
     line(
         rt,
         "The rank of the word that is spelled B in that list",

@@ -3,16 +3,15 @@
 #![tactic(auto)]
 
 use std::io;
-use std::io::Read;
 
 // The most bytes that are read.
-const MOST_INPUT: u64 = 8193;
+const MOST_INPUT: usize = 8193;
 
 fn main(rt: HostRuntime) -> io::Result<()> {
-    let mut stream = Vec::new(rt.alloc());
-    rt.reader().take(MOST_INPUT).read_to_end(&mut stream)?;
-    let mut output = vec![in rt.alloc(); 0u8; node_listing::MAX_LISTING]?;
-    let answer = node_listing::write_listing(&stream, &mut output);
-    output.truncate(answer.value);
-    rt.write_all(&output)
+    let mut stream = [0u8; MOST_INPUT];
+    let mut output = [0u8; node_listing::MAX_LISTING];
+    let read = reading::read_full(&mut rt.reader(), &mut stream)?;
+    let answer = node_listing::write_listing(&stream[..read], &mut output);
+    let count = answer.value;
+    rt.write_all(&output[..count])
 }

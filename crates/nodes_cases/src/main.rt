@@ -18,28 +18,30 @@ fn checksum(bytes: &[u8]) -> u32 {
     high * 65536 + low
 }
 
-// The listing of a stream.
-fn listing_of(rt: &impl AllocGlobal, stream: &[u8]) -> io::Result<Vec<u8>> {
-    let mut output = vec![in rt.alloc(); 0u8; node_listing::MAX_LISTING]?;
-    let answer = node_listing::write_listing(stream, &mut output);
-    output.truncate(answer.value);
-    Ok(output)
-}
-
 // Prints the whole listing of a stream under a name.
-fn show(rt: &(impl Print + AllocGlobal), name: &str, stream: &[u8]) -> io::Result<()> {
+fn show(rt: &impl Print, name: &str, stream: &[u8]) -> io::Result<()> {
+    let mut output = [0u8; node_listing::MAX_LISTING];
+    let answer = node_listing::write_listing(stream, &mut output);
+    let count = answer.value;
     print!(rt; "{name}\n")?;
-    printing::words(rt, &listing_of(rt, stream)?)
+    printing::words(rt, &output[..count])
 }
 
 // Prints of the listing of a stream, under a name, the first line, the length, the checksum and the
 // last 40 bytes.
-fn show_ends(rt: &(impl Print + AllocGlobal), name: &str, stream: &[u8]) -> io::Result<()> {
-    let listing = listing_of(rt, stream)?;
+fn show_ends(rt: &impl Print, name: &str, stream: &[u8]) -> io::Result<()> {
+    let mut output = [0u8; node_listing::MAX_LISTING];
+    let answer = node_listing::write_listing(stream, &mut output);
+    let count = answer.value;
+    print!(rt; "{name}\n")?;
+    print_ends(rt, &output[..count])
+}
+
+// Prints the first line of a listing, its length, its checksum and its last 40 bytes.
+fn print_ends(rt: &impl Print, listing: &[u8]) -> io::Result<()> {
     let line = listing.split_inclusive(|byte| *byte == b'\n').next();
     let length = listing.len();
-    let checksum = checksum(&listing);
-    print!(rt; "{name}\n")?;
+    let checksum = checksum(listing);
     printing::words(rt, line.unwrap_or(&[]))?;
     print!(rt; "length {length} checksum {checksum}, its end:\n")?;
     match listing.last_chunk::<40>() {
@@ -89,7 +91,7 @@ fn every_value() -> [u8; 384] {
 }
 
 // Streams of few words, and every byte value.
-fn short_cases(rt: &(impl Print + AllocGlobal)) -> io::Result<()> {
+fn short_cases(rt: &impl Print) -> io::Result<()> {
     show(rt, "the sample", &[128, 0, 128, 128, 0, 129, 0, 128])?;
     show(rt, "no byte", &[])?;
     show(rt, "one word", &[128])?;
@@ -104,7 +106,7 @@ fn short_cases(rt: &(impl Print + AllocGlobal)) -> io::Result<()> {
 }
 
 // Broken streams.
-fn broken_cases(rt: &(impl Print + AllocGlobal)) -> io::Result<()> {
+fn broken_cases(rt: &impl Print) -> io::Result<()> {
     show(rt, "ends inside a codeword, after one byte", &[128, 0])?;
     show(rt, "ends inside a codeword, after two bytes", &[128, 0, 0])?;
     show(rt, "a codeword of four bytes", &[0, 0, 0, 128])?;
@@ -113,7 +115,7 @@ fn broken_cases(rt: &(impl Print + AllocGlobal)) -> io::Result<()> {
 }
 
 // Streams of 4,096 words and one more, of one byte each.
-fn word_cases(rt: &(impl Print + AllocGlobal)) -> io::Result<()> {
+fn word_cases(rt: &impl Print) -> io::Result<()> {
     let mut most = [0u8; 4096];
     let mut more = [0u8; 4097];
     let mut inside = [0u8; 4098];
@@ -127,7 +129,7 @@ fn word_cases(rt: &(impl Print + AllocGlobal)) -> io::Result<()> {
 }
 
 // Streams of 8,192 bytes and one more.
-fn byte_cases(rt: &(impl Print + AllocGlobal)) -> io::Result<()> {
+fn byte_cases(rt: &impl Print) -> io::Result<()> {
     let mut most = [0u8; 8192];
     let mut more = [0u8; 8193];
     fill_twos(&mut most);

@@ -12,15 +12,13 @@
 #![tactic(auto)]
 
 use given::{Lines, Numbers};
-use std::alloc::{AllocError, Global};
 use std::io;
-use std::io::Read;
 
 // The most bytes of a block.
 const MOST_BYTES: usize = 2048;
 
 // The most bytes of the input; what goes past them is left out.
-const MOST_INPUT: u64 = 32768;
+const MOST_INPUT: usize = 32768;
 
 // What a line asks for.
 #[derive(Clone, Copy)]
@@ -44,14 +42,45 @@ impl Command {
     }
 }
 
-// The block of the runs of a line: each pair of numbers is a byte, and how often it stands.
-fn runs_of(alloc: Global, numbers: &Numbers) -> Result<Vec<u8>, AllocError> {
-    let mut block = Vec::new(alloc);
-    for run in numbers.values().chunks_exact(2) {
-        let size = block.len().saturating_add(run[1]).min(MOST_BYTES);
-        block.resize(size, given::low_byte(run[0]))?;
+// The block that is scanned: bytes, and how many there are.
+#[derive(Clone, Copy)]
+struct Block {
+    bytes: [u8; MOST_BYTES],
+    size: usize,
+}
+
+impl Block {
+    // No bytes.
+    fn empty() -> Block {
+        Block {
+            bytes: [0; MOST_BYTES],
+            size: 0,
+        }
     }
-    Ok(block)
+
+    // Puts a byte behind the others, where there is room.
+    fn push(&mut self, byte: u8) {
+        if let Some(place) = self.bytes.get_mut(self.size) {
+            *place = byte;
+            self.size += 1;
+        }
+    }
+
+    // The bytes in their order.
+    fn as_slice(&self) -> &[u8] {
+        self.bytes.get(..self.size).unwrap_or(&[])
+    }
+}
+
+// The block of the runs of a line: each pair of numbers is a byte, and how often it stands.
+fn runs_of(numbers: &Numbers) -> Block {
+    let mut block = Block::empty();
+    for run in numbers.values().chunks_exact(2) {
+        for _ in 0..run[1].min(MOST_BYTES) {
+            block.push(given::low_byte(run[0]));
+        }
+    }
+    block
 }
 
 // The state after another one, of which a byte is drawn.
@@ -68,14 +97,14 @@ fn byte_of(state: usize, values: usize) -> u8 {
 }
 
 // The block of so many bytes that are drawn from so many values.
-fn drawn(alloc: Global, count: usize, values: usize, seed: usize) -> Result<Vec<u8>, AllocError> {
-    let mut block = Vec::new(alloc);
+fn drawn(count: usize, values: usize, seed: usize) -> Block {
+    let mut block = Block::empty();
     let mut state = seed;
     for _ in 0..count.min(MOST_BYTES) {
         state = drawn_after(state);
-        block.push(byte_of(state, values))?;
+        block.push(byte_of(state, values));
     }
-    Ok(block)
+    block
 }
 
 // Scans a block, and prints the position, or none, and the number of bytes read.
@@ -109,27 +138,20 @@ fn scan_each(rt: &impl Print, block: &[u8], byte: u8) -> io::Result<()> {
 }
 
 // Does what a line asks for.
-fn obey(
-    rt: &(impl Print + AllocGlobal),
-    block: &mut Vec<u8>,
-    command: Command,
-    numbers: &Numbers,
-) -> io::Result<()> {
+fn obey(rt: &impl Print, block: &mut Block, command: Command, numbers: &Numbers) -> io::Result<()> {
     let byte = given::low_byte(numbers.at(0));
     match command {
-        Command::Block => *block = runs_of(rt.alloc(), numbers)?,
-        Command::Drawn => {
-            *block = drawn(rt.alloc(), numbers.at(0), numbers.at(1), numbers.at(2))?
-        }
-        Command::Scan => scan(rt, block, byte, numbers.at(1))?,
-        Command::Each => scan_each(rt, block, byte)?,
+        Command::Block => *block = runs_of(numbers),
+        Command::Drawn => *block = drawn(numbers.at(0), numbers.at(1), numbers.at(2)),
+        Command::Scan => scan(rt, block.as_slice(), byte, numbers.at(1))?,
+        Command::Each => scan_each(rt, block.as_slice(), byte)?,
     }
     Ok(())
 }
 
 // Runs the case of a line.
-fn run_line(rt: &(impl Print + AllocGlobal), block: &mut Vec<u8>, line: &[u8]) -> io::Result<()> {
-    let numbers = Numbers::of(rt.alloc(), line)?;
+fn run_line(rt: &impl Print, block: &mut Block, line: &[u8]) -> io::Result<()> {
+    let numbers = given::numbers_of(line);
     printing::words(rt, line)?;
     if let Some(command) = Command::of(line) {
         obey(rt, block, command, &numbers)?;
@@ -138,8 +160,8 @@ fn run_line(rt: &(impl Print + AllocGlobal), block: &mut Vec<u8>, line: &[u8]) -
 }
 
 // Runs the cases of all lines, each over the block that the one before it left.
-fn run(rt: &(impl Print + AllocGlobal), input: &[u8]) -> io::Result<()> {
-    let mut block = Vec::new(rt.alloc());
+fn run(rt: &impl Print, input: &[u8]) -> io::Result<()> {
+    let mut block = Block::empty();
     for line in Lines::of(input) {
         run_line(rt, &mut block, line)?;
     }
@@ -147,7 +169,7 @@ fn run(rt: &(impl Print + AllocGlobal), input: &[u8]) -> io::Result<()> {
 }
 
 fn main(rt: HostRuntime) -> io::Result<()> {
-    let mut input = Vec::new(rt.alloc());
-    rt.reader().take(MOST_INPUT).read_to_end(&mut input)?;
-    run(&rt, &input)
+    let mut input = [0u8; MOST_INPUT];
+    let size = reading::read_full(&mut rt.reader(), &mut input)?;
+    run(&rt, &input[..size])
 }

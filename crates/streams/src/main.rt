@@ -8,11 +8,11 @@ fn main(rt: HostRuntime) -> io::Result<()> {
     let mut stream = [0u8; 8192];
     let mut text = [0u32; 8192];
     let n = reading::read_full(&mut rt.reader(), &mut stream)?;
-    let words = dense::read_stream_of(dense::CLOSING, &stream[..n], &mut text);
-    printing::answer(&rt, words.into())?;
+    let answer = dense::read_stream(&stream[..n], &mut text);
+    printing::answer(&rt, answer)?;
     println!(rt; "")?;
-    if let Ok(count) = words {
-        show(&rt, &text, count)?;
+    if answer.refusal == 0 {
+        show(&rt, &text, answer.value)?;
     }
     Ok(())
 }

@@ -17,16 +17,17 @@
 // Slices that are filled held nothing but 9 before, and have at most 20 elements.
 #![tactic(auto)]
 
-use given::{Lines, Numbers};
-use std::alloc::{AllocError, Global};
+use given::{Lines, Numbers, Spelled};
 use std::io;
-use std::io::Read;
 
 // The most entries of a table: one more than it must have.
 const MOST_ENTRIES: usize = 257;
 
+// The most elements of a slice that is filled.
+const MOST_FILLED: usize = 20;
+
 // The most bytes of the input; what goes past them is left out.
-const MOST_INPUT: u64 = 16384;
+const MOST_INPUT: usize = 16384;
 
 // The call or the change that a line asks for.
 #[derive(Clone, Copy)]
@@ -59,10 +60,10 @@ impl Command {
 }
 
 // The table that calls are lent, and the word list.
-#[derive(Drop)]
+#[derive(Clone, Copy)]
 struct State {
     table: [u8; MOST_ENTRIES],
-    list: Vec<u8>,
+    list: Spelled,
 }
 
 // The built-in table, with a 0 behind its last entry.
@@ -74,10 +75,10 @@ fn built_in() -> [u8; MOST_ENTRIES] {
 
 impl State {
     // The built-in table, and no list.
-    fn first(alloc: Global) -> State {
+    fn first() -> State {
         State {
             table: built_in(),
-            list: Vec::new(alloc),
+            list: Spelled::none(),
         }
     }
 
@@ -95,61 +96,52 @@ impl State {
     }
 
     // Takes another word list.
-    fn take_list(&mut self, alloc: Global, line: &[u8]) -> Result<(), AllocError> {
-        self.list = given::spelled_by(alloc, line, 1)?;
-        Ok(())
+    fn take_list(&mut self, line: &[u8]) {
+        self.list = given::spelled_by(line, 1);
     }
 }
 
 // Reads the plain text of a line with the front of the table through the word list into so many ranks,
 // at most 20.
-fn text(
-    rt: &(impl Print + AllocGlobal),
-    state: &State,
-    line: &[u8],
-    numbers: &Numbers,
-) -> io::Result<()> {
-    let text = given::spelled_by(rt.alloc(), line, 3)?;
-    let mut ranks = vec![in rt.alloc(); 9u32; numbers.at(1).min(20)]?;
+fn text(rt: &impl Print, state: &State, line: &[u8], numbers: &Numbers) -> io::Result<()> {
+    let text = given::spelled_by(line, 3);
+    let mut ranks = [9u32; MOST_FILLED];
+    let ranks = &mut ranks[..numbers.at(1).min(MOST_FILLED)];
     let answer = lent_tables::read_text_with(
         state.entries(numbers),
-        &state.list,
-        &text,
-        &mut ranks,
+        state.list.as_slice(),
+        text.as_slice(),
+        ranks,
     );
-    printing::answered_with_ranks(rt, answer, &ranks)
+    printing::answered_with_ranks(rt, answer, ranks)
 }
 
 // Finds the word that a line spells in the word list with the front of the table.
-fn known(
-    rt: &(impl Print + AllocGlobal),
-    state: &State,
-    line: &[u8],
-    numbers: &Numbers,
-) -> io::Result<()> {
-    let word = given::spelled_by(rt.alloc(), line, 2)?;
-    let answer = lent_tables::find_word_with(state.entries(numbers), &state.list, &word);
+fn known(rt: &impl Print, state: &State, line: &[u8], numbers: &Numbers) -> io::Result<()> {
+    let word = given::spelled_by(line, 2);
+    let answer = lent_tables::find_word_with(
+        state.entries(numbers),
+        state.list.as_slice(),
+        word.as_slice(),
+    );
     printing::answered(rt, answer)
 }
 
 // Makes a word list of the plain text of a line with the front of the table, in slices of so many bytes
 // and ranks, at most 20.
-fn from(
-    rt: &(impl Print + AllocGlobal),
-    state: &State,
-    line: &[u8],
-    numbers: &Numbers,
-) -> io::Result<()> {
-    let text = given::spelled_by(rt.alloc(), line, 4)?;
-    let mut list = vec![in rt.alloc(); 9u8; numbers.at(1).min(20)]?;
-    let mut ranks = vec![in rt.alloc(); 9u32; numbers.at(2).min(20)]?;
-    let made = lent_tables::make_list_with(state.entries(numbers), &text, &mut list, &mut ranks);
-    printing::answered_with_list(rt, made.answer, made.bytes, made.words, &list, &ranks)
+fn from(rt: &impl Print, state: &State, line: &[u8], numbers: &Numbers) -> io::Result<()> {
+    let text = given::spelled_by(line, 4);
+    let mut list = [9u8; MOST_FILLED];
+    let mut ranks = [9u32; MOST_FILLED];
+    let list = &mut list[..numbers.at(1).min(MOST_FILLED)];
+    let ranks = &mut ranks[..numbers.at(2).min(MOST_FILLED)];
+    let made = lent_tables::make_list_with(state.entries(numbers), text.as_slice(), list, ranks);
+    printing::answered_with_list(rt, made.answer, made.bytes, made.words, list, ranks)
 }
 
 // Does what a line asks for.
 fn obey(
-    rt: &(impl Print + AllocGlobal),
+    rt: &impl Print,
     state: &mut State,
     command: Command,
     line: &[u8],
@@ -160,7 +152,7 @@ fn obey(
         Command::Zeros => state.table = [0; MOST_ENTRIES],
         Command::Modify => state.modify(numbers),
         Command::Check => printing::answered(rt, lexicon::check_table(state.entries(numbers)))?,
-        Command::List => state.take_list(rt.alloc(), line)?,
+        Command::List => state.take_list(line),
         Command::Text => text(rt, state, line, numbers)?,
         Command::Known => known(rt, state, line, numbers)?,
         Command::From => from(rt, state, line, numbers)?,
@@ -169,8 +161,8 @@ fn obey(
 }
 
 // Runs the case of a line.
-fn run_line(rt: &(impl Print + AllocGlobal), state: &mut State, line: &[u8]) -> io::Result<()> {
-    let numbers = Numbers::of(rt.alloc(), line)?;
+fn run_line(rt: &impl Print, state: &mut State, line: &[u8]) -> io::Result<()> {
+    let numbers = given::numbers_of(line);
     printing::words(rt, line)?;
     if let Some(command) = Command::of(line) {
         obey(rt, state, command, line, &numbers)?;
@@ -179,8 +171,8 @@ fn run_line(rt: &(impl Print + AllocGlobal), state: &mut State, line: &[u8]) -> 
 }
 
 // Runs the cases of all lines, each over the state that the one before it left.
-fn run(rt: &(impl Print + AllocGlobal), input: &[u8]) -> io::Result<()> {
-    let mut state = State::first(rt.alloc());
+fn run(rt: &impl Print, input: &[u8]) -> io::Result<()> {
+    let mut state = State::first();
     for line in Lines::of(input) {
         run_line(rt, &mut state, line)?;
     }
@@ -188,7 +180,7 @@ fn run(rt: &(impl Print + AllocGlobal), input: &[u8]) -> io::Result<()> {
 }
 
 fn main(rt: HostRuntime) -> io::Result<()> {
-    let mut input = Vec::new(rt.alloc());
-    rt.reader().take(MOST_INPUT).read_to_end(&mut input)?;
-    run(&rt, &input)
+    let mut input = [0u8; MOST_INPUT];
+    let size = reading::read_full(&mut rt.reader(), &mut input)?;
+    run(&rt, &input[..size])
 }

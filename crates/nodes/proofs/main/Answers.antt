@@ -1,0 +1,13 @@
+-- what is answered counts bytes of the output
+use Rattle.node_listing.proofs.Calls.{listing_counts}
+use Rattle.nodes.proofs.main.Goals as goal
+
+pub slice_bounds-output-end : goal.slice_bounds-output-end
+slice_bounds-output-end c =
+    let answer = c.write_listing-answer in
+    (listing_counts _ _ answer.result answer.new.output answer.ensures.0 answer.ensures.1).0
+
+pub slice_bounds-write_all-end : goal.slice_bounds-write_all-end
+slice_bounds-write_all-end c =
+    let answer = c.write_listing-answer in
+    (listing_counts _ _ answer.result answer.new.output answer.ensures.0 answer.ensures.1).1
