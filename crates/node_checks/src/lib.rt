@@ -28,16 +28,18 @@ fn histogram(part: &[u8]) -> [u32; 256]
     counts
 }
 
-// How often each byte value stands from a start to an end, by the counters of all bytes.
+// How often each byte value stands from a start to an end, by the counters of all bytes. The values
+// are numbers here: over a range of bytes the counts are compiled to widen each byte that they compare.
 fn counted_row(counted: &CountedBytes, start: usize, end: usize) -> [u32; 256]
     requires { (start ≤ end) × (end ≤ length counted.now.bytes.now) }
     ensures { result ≡ row (take (end - start) (drop start counted.now.bytes.now)) }
 {
     let mut counts = [0u32; 256];
-    for value in 0..=255u8 {
-        let before = counted.count_below(value, start);
-        let below = counted.count_below(value, end);
-        counts[usize::from(value)] = (below - before) as u32;
+    for value in 0..256usize {
+        let byte = value as u8;
+        let before = counted.count_below(byte, start);
+        let below = counted.count_below(byte, end);
+        counts[value] = (below - before) as u32;
     }
     counts
 }
@@ -55,25 +57,18 @@ pub fn node_row(counted: &CountedBytes, start: usize, end: usize) -> [u32; 256]
 }
 
 // Whether a byte value may stand in a node as often as it does.
-fn value_passes(
-    s: usize,
-    vocabulary: usize,
-    lengths: &[u32],
-    node: usize,
-    value: u8,
-    count: u32,
-) -> bool
-    requires { Closing s × (node < max_nodes s) }
-    ensures { result ≡ value_test s vocabulary lengths.now node value count }
+fn value_passes(index: &LentIndex, node: usize, value: u8, count: u32) -> bool
+    requires { Closing index.now.s × (node < max_nodes index.now.s) }
+    ensures { result ≡ value_test index.now.s index.now.shape.vocabulary index.now.lengths.now node value count }
 {
-    let least = 256 - s;
+    let least = 256 - index.s;
     let byte = usize::from(value);
     if least <= byte {
-        return count == 0 || s * node + (byte - least) < vocabulary;
+        return count == 0 || index.s * node + (byte - least) < index.shape.vocabulary;
     }
-    let child = tree::child(s, node, value);
-    if child < lengths.len() {
-        return count == lengths[child];
+    let child = tree::child(index.s, node, value);
+    if child < index.lengths.len() {
+        return count == index.lengths[child];
     }
     count == 0
 }
@@ -90,13 +85,9 @@ fn node_passes(
     requires { Closing index.now.s × (node < max_nodes index.now.s) × (start ≤ end) × (end ≤ length counted.now.bytes.now) }
     ensures { result ≡ node_passes index.now.s index.now.shape.vocabulary index.now.lengths.now node (take (end - start) (drop start counted.now.bytes.now)) }
 {
-    let LentIndex {
-        s, shape, lengths, ..
-    } = *index;
-    let vocabulary = shape.vocabulary;
     let counts = node_row(counted, start, end);
     for (value, count) in counts.iter().enumerate() {
-        if !value_passes(s, vocabulary, lengths, node, value as u8, *count) {
+        if !value_passes(index, node, value as u8, *count) {
             return false;
         }
     }

@@ -1,18 +1,15 @@
 -- A loop that fills a page with places: its start, a turn of it, and the two ways out. Assumes nothing.
-use Rattle.std.proofs.Common.{◌≡◌, ℕ, suc, ◌+◌, ◌-◌, ◌≤◌, ◌<◌, Bool, true, false, List, [], ◌∷◌, ◌++◌, Some, length, sym, ap, ◌∙◌, arith}
-use Rattle.std.proofs.lemmas.List.{append_cancel_right}
+use Rattle.std.proofs.Common.{◌≡◌, ℕ, suc, ◌+◌, ◌≤◌, ◌<◌, Bool, true, false, List, ◌∷◌, ◌++◌, Some, length, arith}
 use native.Mathlib.Nat.{sub_self}
 use lib.ListN.{set}
 use Rattle.base.specs.Answers.{front}
-use Rattle.base.specs.Lists.{filter_by, range_from}
-use Rattle.base.proofs.Ranges.{filter_range_append}
 use Rattle.tree.specs.declared.Place.{Place}
 use Rattle.pages.specs.Pages.{HitPage, page_over}
 use Rattle.pages.proofs.Pages.{page_full, page_last}
 use Rattle.pages.proofs.Filling.{Filled, filled_none, filled_more, filled_length}
 use Rattle.pages.proofs.Searching.{Made, made_full, made_end}
 use Rattle.hits.specs.Hits.{hits_between, least_hit}
-use Rattle.hits.proofs.Least.{hit_after, hit_below, hit_first}
+use Rattle.hits.proofs.Least.{hits_more}
 use Rattle.paging.specs.declared.Written.{Written}
 use Rattle.paging.specs.Written.{written_of}
 
@@ -25,23 +22,6 @@ written_result p entry slice count more next finished r e m = (rw (e, m.value_is
 -- at the first place nothing is written
 pub filling_starts : (P : ℕ → Bool) (next : ℕ) (entry : List ℕ) → Filled entry (hits_between P next next) entry 0 0
 filling_starts P next entry = rw (sub_self next) (filled_none entry)
-
--- the hits from a place on up to an end are those up to any place between, and those from there on
-hits_append : (P : ℕ → Bool) (a b c : ℕ) → a ≤ b → b ≤ c → hits_between P a c ≡ hits_between P a b ++ hits_between P b c
-hits_append P a b c h l =
-    let e : c - a ≡ (b - a) + (c - b) = omega arith in
-    let f : a + (b - a) ≡ b = omega arith in
-    ap (λ (n : ℕ). filter_by P (range_from a n)) e ∙ filter_range_append P a (b - a) (c - b)
-    ∙ ap (λ (k : ℕ). hits_between P a b ++ filter_by P (range_from k (c - b))) f
-
--- the hits up to the least one from a place on, from any place before
-pub hits_more : (P : ℕ → Bool) (from end : ℕ) (q : Place) → least_hit P from end ≡ Some q → (a : ℕ) → a ≤ from → hits_between P a (q.0 + 1) ≡ hits_between P a from ++ q.0 ∷ []
-hits_more P from end q is a h =
-    let l = hit_after P from end q is in
-    let one : hits_between P from (q.0 + 1) ≡ q.0 ∷ [] =
-    append_cancel_right (hits_between P from (q.0 + 1)) (q.0 ∷ []) (hits_between P (q.0 + 1) end)
-    (sym (hits_append P from (q.0 + 1) end (omega arith) (omega (arith, hit_below P from end q is))) ∙ hit_first P from end q is) in
-    hits_append P a from (q.0 + 1) h (omega arith) ∙ ap (λ (xs : List ℕ). hits_between P a from ++ xs) one
 
 -- the search began at the place `next` and is at `place`: the slice has the hits between; another hit, and there is a line for it
 pub filling_more : (P : ℕ → Bool) (n next place end : ℕ) (entry slice : List ℕ) (count last : ℕ) → end ≡ suc n → next ≤ place → Filled entry (hits_between P next place) slice count last
