@@ -63,9 +63,9 @@ pub fn low_byte(n: usize) -> u8 {
 // the most there is room for gives its digits to the last; digits past 64 bits are left out.
 #[derive(Clone, Copy)]
 pub struct Numbers {
-    values: [usize; MOST],
-    count: usize,
-    negative: bool,
+    pub values: [usize; MOST],
+    pub count: usize,
+    pub negative: bool,
 }
 
 impl Numbers {
@@ -140,8 +140,8 @@ pub fn numbers_of(line: &[u8]) -> Numbers {
 // Ranks, and how many there are.
 #[derive(Clone, Copy)]
 pub struct Ranks {
-    values: [u32; MOST],
-    count: usize,
+    pub values: [u32; MOST],
+    pub count: usize,
 }
 
 impl Ranks {
@@ -175,8 +175,8 @@ pub fn ranks_of(numbers: Numbers, from: usize) -> Ranks {
 // Bytes that a line gives, and how many there are. Those past the most there is room for are left out.
 #[derive(Clone, Copy)]
 pub struct Spelled {
-    bytes: [u8; MOST_BYTES],
-    count: usize,
+    pub bytes: [u8; MOST_BYTES],
+    pub count: usize,
 }
 
 impl Spelled {
