@@ -53,7 +53,8 @@ fn find_by_written(list: &WordList, spelling: &[u8]) -> Result<usize, Refused>
     requires { (is_written list.now.letters.table.now list.now.bytes.now ≡ true) × (outside 1 (max_vocabulary 128) (list_size list.now.bytes.now) ≡ false) }
     ensures { answer_of result ≡ find_word_answer list.now.letters.table.now list.now.bytes.now spelling.now }
 {
-    if !list_rules::is_distinct(list, &mut Slots::new()) {
+    let mut slots = Slots::new();
+    if !list_rules::is_distinct(list, &mut slots.heads, &mut slots.links, &mut slots.starts) {
         return Err(Refusal::WordList.into());
     }
     Ok(rank_of(list, spelling))

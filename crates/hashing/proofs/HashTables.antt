@@ -12,7 +12,7 @@ use lib.Seq.{get_or-set_same, get_or-set_other, get_or-drop}
 use Rattle.base.specs.Lists.{same}
 use Rattle.base.proofs.Tests.{same_or_not}
 use Rattle.base.proofs.Lists.{same_yes, same_true}
-use Rattle.hashing.specs.HashTables.{max_part, next_where, pass_from, spelled_at, next_in, index_in, index_from, Starts, Buckets, Chains}
+use Rattle.hashing.specs.HashTables.{max_part, next_where, pass_from, spelled_at, next_in, index_in, index_from, Room, Starts, Buckets, Chains, HashTable}
 use Rattle.lexicon.specs.Reading.{TextWord, word}
 use Rattle.scanning.specs.Scans.{words_at, run_at, buckets, bucket_from, bucket_of}
 
@@ -109,6 +109,10 @@ bucket_below w = go 0 w (omega arith)
     go : (h : ℕ) (w : List ℕ) → h < buckets → bucket_from h w < buckets
     go h [] l = l
     go h (x ∷ xs) l = go ((h * 40503 + x) % buckets) xs (omega arith)
+
+-- slices as long as those with room have room
+pub room_stays : {heads links starts hs ls ss : List ℕ} → Room heads links starts → length hs ≡ length heads → length ls ≡ length links → length ss ≡ length starts → Room hs ls ss
+room_stays r h l s = record { heads_long = h ∙ r.heads_long; links_long = l ∙ r.links_long; starts_long = s ∙ r.starts_long }
 
 module _ (table list : List ℕ) (from : ℕ) where
   -- a word in its bucket, and in another
@@ -232,6 +236,10 @@ module _ (table list : List ℕ) (from : ℕ) where
   chains_more k (suc p) heads links b c h m few e =
       let q : suc p - 1 ≡ p = omega arith in
       rw q (chains_front k p heads links b c m few (e ∙ ap (λ (j : ℕ). bucket_of (spelled_at table list from j)) q))
+
+  -- the slices in which it is have room for one
+  pub room : (k : ℕ) (heads links starts : List ℕ) → HashTable table list from k heads links starts → Room heads links starts
+  room k heads links starts h = record { heads_long = h.chained.heads_long; links_long = h.chained.linked.long; starts_long = h.begun.long }
 
   -- where no word begins is noted yet
   pub starts_none : (starts : List ℕ) → length starts ≡ max_part → Starts table list from 0 starts

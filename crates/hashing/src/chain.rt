@@ -1,7 +1,7 @@
 // The look-up of a word along the words of its bucket.
 
 ghost use Rattle.std.specs.Prelude.{◌≡◌, ℕ, ◌-◌, ◌≤◌, ◌<◌, length};
-ghost use Rattle.hashing.specs.HashTables.{max_part, spelled_at, index_from, Starts, Links};
+ghost use Rattle.hashing.specs.HashTables.{max_part, spelled_at, index_in, index_from, Starts, Links, HashTable};
 ghost use Rattle.hashing.specs.Parts.{link_to};
 ghost use Rattle.scanning.specs.Scans.{run_at, bucket_of};
 
@@ -32,4 +32,24 @@ pub fn find_from(
         word = links[word - 1] as usize;
     }
     None
+}
+
+// Looks a word of a text up in a part of a list: its number there.
+pub fn find(
+    letters: &Letters,
+    list: &[u8],
+    from: usize,
+    count: usize,
+    heads: &[u32],
+    links: &[u32],
+    starts: &[usize],
+    text: &[u8],
+    at: usize,
+    bucket: usize,
+) -> Option<usize>
+    requires { let table = letters.now.table.now in HashTable table list.now from count heads.now links.now starts.now × (at ≤ length text.now) × (bucket ≡ bucket_of (run_at table text.now at)) }
+    ensures { let table = letters.now.table.now in link_to result ≡ index_in table list.now from count (run_at table text.now at) }
+{
+    let first = heads[bucket] as usize;
+    find_from(letters, list, from, count, links, starts, text, at, first)
 }

@@ -4,8 +4,7 @@ ghost use Rattle.std.specs.Prelude.{◌≡◌, drop};
 ghost use Rattle.hashing.specs.HashTables.{HashTable};
 ghost use Rattle.scanning.specs.Scans.{words_at, WordBegins};
 
-use crate::chain::find_from;
-use crate::slots::Slots;
+use crate::chain::{find, find_from};
 use crate::word_list::WordList;
 
 // So many words of a list from an offset on, in a hash table, and where the word behind them begins.
@@ -15,8 +14,10 @@ pub struct Part<'a> {
     pub from: usize,
     pub count: usize,
     pub behind: usize,
-    pub slots: &'a Slots,
-    ghost hashed: { HashTable list.now.letters.table.now list.now.bytes.now from count slots.now.heads slots.now.links slots.now.starts },
+    pub heads: &'a [u32],
+    pub links: &'a [u32],
+    pub starts: &'a [usize],
+    ghost hashed: { HashTable list.now.letters.table.now list.now.bytes.now from count heads.now links.now starts.now },
     ghost begun: { WordBegins list.now.letters.table.now list.now.bytes.now behind },
     ghost left: { words_at list.now.letters.table.now list.now.bytes.now behind ≡ drop count (words_at list.now.letters.table.now list.now.bytes.now from) },
 }
@@ -38,8 +39,8 @@ impl Part<'_> {
             self.list.bytes,
             self.from,
             self.count,
-            &self.slots.links,
-            &self.slots.starts,
+            self.links,
+            self.starts,
             text,
             at,
             first,
@@ -51,6 +52,17 @@ impl Part<'_> {
         requires { (at ≤ length text.now) × (bucket ≡ bucket_of (run_at self.now.list.now.letters.table.now text.now at)) }
         ensures { link_to result ≡ index_in_part self.now (run_at self.now.list.now.letters.table.now text.now at) }
     {
-        self.find_from(text, at, self.slots.heads[bucket] as usize)
+        find(
+            &self.list.letters,
+            self.list.bytes,
+            self.from,
+            self.count,
+            self.heads,
+            self.links,
+            self.starts,
+            text,
+            at,
+            bucket,
+        )
     }
 }

@@ -3,12 +3,13 @@
 #![tactic(auto)]
 
 ghost use Rattle.std.specs.Prelude.{◌≡◌, true, ◌≤◌, length};
+ghost use Rattle.hashing.specs.HashTables.{Room};
 ghost use Rattle.hashing.specs.Parts.{words_of};
 ghost use Rattle.lexicon.specs.Lexicon.{list_size, distinct, is_written};
 ghost use Rattle.list_rules.specs.Repeats.{is_part_unrepeated};
 ghost use Rattle.scanning.specs.Scans.{words_at};
 
-use hashing::{MAX_PART, Part, Slots, WordList};
+use hashing::{MAX_PART, Part, WordList};
 use scanning::Letters;
 
 // The number of words of a list, which is that of its closing bytes.
@@ -48,8 +49,8 @@ fn is_part_distinct(part: &Part) -> bool
     ensures { result ≡ is_part_unrepeated part.now part.now.count }
 {
     for word in 0..part.count {
-        let start = part.slots.starts[word];
-        let next = part.slots.links[word] as usize;
+        let start = part.starts[word];
+        let next = part.links[word] as usize;
         let later = part.find_from(part.list.bytes, start, next);
         if later.is_some() {
             return false;
@@ -85,8 +86,14 @@ fn is_part_unrepeated(part: &Part, size: usize) -> bool
     is_part_distinct(part) && is_unrepeated(part, size)
 }
 
-// Whether no word of a list is there twice, part by part.
-pub fn is_distinct(list: &WordList, slots: &mut Slots) -> bool
+// Whether no word of a list is there twice, part by part, in a hash table that is lent.
+pub fn is_distinct(
+    list: &WordList,
+    heads: &mut [u32],
+    links: &mut [u32],
+    starts: &mut [usize],
+) -> bool
+    requires { Room heads.old links.old starts.old }
     ensures { result ≡ distinct (words_of list.now) }
 {
     let mut from = list.letters.word_start(list.bytes, 0);
@@ -94,13 +101,23 @@ pub fn is_distinct(list: &WordList, slots: &mut Slots) -> bool
     while first < list.size {
         let left = list.size - first;
         let count = left.min(MAX_PART);
-        let behind = slots.hash_part(&list.letters, list.bytes, from, count);
+        let behind = hashing::hash_part(
+            &list.letters,
+            list.bytes,
+            from,
+            count,
+            heads,
+            links,
+            starts,
+        );
         let part = Part {
             list: &*list,
             from,
             count,
             behind,
-            slots: &*slots,
+            heads: &*heads,
+            links: &*links,
+            starts: &*starts,
         };
         if !is_part_unrepeated(&part, left) {
             return false;

@@ -3,13 +3,14 @@
 #![tactic(auto)]
 
 ghost use Rattle.std.specs.Prelude.{◌≡◌, true, IsSome, ◌≤◌, ◌<◌, length, take};
+ghost use Rattle.hashing.specs.HashTables.{Room};
 ghost use Rattle.hashing.specs.Parts.{words_of};
 ghost use Rattle.lexicon.specs.Lexicon.{distinct};
 ghost use Rattle.lexicon.specs.Reading.{text_words};
 ghost use Rattle.lookup.specs.Lookups.{count_in_part, count_listed, first_missing, offset_or};
 ghost use Rattle.scanning.specs.Scans.{words_at, WordBegins};
 
-use hashing::{MAX_PART, Part, Slots, WordList};
+use hashing::{MAX_PART, Part, WordList};
 
 // How many of so many words of a text from a position on are in a part of a list.
 fn count_found(part: &Part, text: &[u8], at: usize, size: usize) -> usize
@@ -30,15 +31,18 @@ fn count_found(part: &Part, text: &[u8], at: usize, size: usize) -> usize
     found
 }
 
-// How many of so many words of a text from a position on are in a list, part by part.
+// How many of so many words of a text from a position on are in a list, part by part, in a hash table
+// that is lent.
 pub fn count_listed(
     list: &WordList,
-    slots: &mut Slots,
+    heads: &mut [u32],
+    links: &mut [u32],
+    starts: &mut [usize],
     text: &[u8],
     at: usize,
     size: usize,
 ) -> usize
-    requires { let table = list.now.letters.table.now in (distinct (words_of list.now) ≡ true) × WordBegins table text.now at × (size ≤ length (words_at table text.now at)) }
+    requires { let table = list.now.letters.table.now in (distinct (words_of list.now) ≡ true) × WordBegins table text.now at × (size ≤ length (words_at table text.now at)) × Room heads.old links.old starts.old }
     ensures { result ≡ count_listed (words_of list.now) (take size (words_at list.now.letters.table.now text.now at)) }
 {
     let mut from = list.letters.word_start(list.bytes, 0);
@@ -46,13 +50,23 @@ pub fn count_listed(
     let mut found: usize = 0;
     while first < list.size {
         let count = (list.size - first).min(MAX_PART);
-        let behind = slots.hash_part(&list.letters, list.bytes, from, count);
+        let behind = hashing::hash_part(
+            &list.letters,
+            list.bytes,
+            from,
+            count,
+            heads,
+            links,
+            starts,
+        );
         let part = Part {
             list: &*list,
             from,
             count,
             behind,
-            slots: &*slots,
+            heads: &*heads,
+            links: &*links,
+            starts: &*starts,
         };
         found += count_found(&part, text, at, size);
         from = behind;
@@ -63,18 +77,25 @@ pub fn count_listed(
 
 // The offset of the first word of a text of so many words that is not in a list. A range that has such a
 // word is halved until it is that word.
-pub fn first_unlisted(list: &WordList, slots: &mut Slots, text: &[u8], size: usize) -> Option<usize>
-    requires { (distinct (words_of list.now) ≡ true) × (size ≡ length (text_words list.now.letters.table.now text.now)) }
+pub fn first_unlisted(
+    list: &WordList,
+    heads: &mut [u32],
+    links: &mut [u32],
+    starts: &mut [usize],
+    text: &[u8],
+    size: usize,
+) -> Option<usize>
+    requires { (distinct (words_of list.now) ≡ true) × (size ≡ length (text_words list.now.letters.table.now text.now)) × Room heads.old links.old starts.old }
     ensures { let missing = first_missing (words_of list.now) (length text.now) (text_words list.now.letters.table.now text.now) in (offset_or (length text.now) result ≡ missing) × (IsSome result → missing < length text.now) }
 {
     let mut at = list.letters.word_start(text, 0);
-    if count_listed(list, slots, text, at, size) == size {
+    if count_listed(list, heads, links, starts, text, at, size) == size {
         return None;
     }
     let mut left = size;
     while 1 < left {
         let half = left / 2;
-        if count_listed(list, slots, text, at, half) == half {
+        if count_listed(list, heads, links, starts, text, at, half) == half {
             at = list.letters.skip_words(text, at, half);
             left -= half;
         } else {

@@ -43,16 +43,17 @@ fn read_by_written(
     ensures { (answer_of result ≡ read_text_answer list.now.letters.table.now list.now.bytes.now text.now ranks.old) × (ranks.new ≡ read_text_exit list.now.letters.table.now list.now.bytes.now text.now ranks.old) }
 {
     let mut slots = Slots::new();
-    if !list_rules::is_distinct(list, &mut slots) {
+    let (heads, links, starts) = (&mut slots.heads, &mut slots.links, &mut slots.starts);
+    if !list_rules::is_distinct(list, heads, links, starts) {
         return Err(Refusal::WordList.into());
     }
-    if let Some(at) = lookup::first_unlisted(list, &mut slots, text, size) {
+    if let Some(at) = lookup::first_unlisted(list, heads, links, starts, text, size) {
         return Err(Refused {
             refusal: Refusal::Unlisted,
             at,
         });
     }
-    ranking::write_ranks(list, &mut slots, text, size, ranks);
+    ranking::write_ranks(list, heads, links, starts, text, size, ranks);
     Ok(size)
 }
 

@@ -3,11 +3,12 @@
 
 ghost use Rattle.std.specs.Prelude.{◌≡◌, ◌+◌, ◌≤◌, length};
 ghost use Rattle.base.specs.Answers.{front};
+ghost use Rattle.hashing.specs.HashTables.{Room};
 ghost use Rattle.hashing.specs.Parts.{words_of};
 ghost use Rattle.lexicon.specs.Reading.{text_words};
 ghost use Rattle.ranking.specs.Ranks.{ranks_in, RankedByPart, Rankable};
 
-use hashing::{MAX_PART, Part, Slots, WordList};
+use hashing::{MAX_PART, Part, WordList};
 
 // Writes the ranks of the words of a text of so many words that are in a part of a list, which
 // begins with the rank `first`. The others stay.
@@ -27,9 +28,17 @@ fn write_found(part: &Part, first: usize, text: &[u8], size: usize, ranks: &mut 
 }
 
 // Writes the ranks of the words of a text, all of them listed, to the front of a slice, part by
-// part. The rest stays.
-pub fn write_ranks(list: &WordList, slots: &mut Slots, text: &[u8], size: usize, ranks: &mut [u32])
-    requires { Rankable list.now.letters.table.now list.now.bytes.now list.now.size text.now size × (size ≤ length ranks.old) }
+// part, in a hash table that is lent. The rest stays.
+pub fn write_ranks(
+    list: &WordList,
+    heads: &mut [u32],
+    links: &mut [u32],
+    starts: &mut [usize],
+    text: &[u8],
+    size: usize,
+    ranks: &mut [u32],
+)
+    requires { Rankable list.now.letters.table.now list.now.bytes.now list.now.size text.now size × (size ≤ length ranks.old) × Room heads.old links.old starts.old }
     ensures { ranks.new ≡ front (ranks_in (words_of list.now) (text_words list.now.letters.table.now text.now)) ranks.old }
 {
     let words = list.size;
@@ -37,13 +46,23 @@ pub fn write_ranks(list: &WordList, slots: &mut Slots, text: &[u8], size: usize,
     let mut first: usize = 0;
     while first < words {
         let count = (words - first).min(MAX_PART);
-        let behind = slots.hash_part(&list.letters, list.bytes, from, count);
+        let behind = hashing::hash_part(
+            &list.letters,
+            list.bytes,
+            from,
+            count,
+            heads,
+            links,
+            starts,
+        );
         let part = Part {
             list: &*list,
             from,
             count,
             behind,
-            slots: &*slots,
+            heads: &*heads,
+            links: &*links,
+            starts: &*starts,
         };
         write_found(&part, first, text, size, ranks);
         from = behind;

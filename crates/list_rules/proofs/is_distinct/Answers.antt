@@ -1,5 +1,6 @@
 -- `list_rules::is_distinct` meets its contract. Assumes nothing.
 use Rattle.std.proofs.Common.{◌≡◌, ◌+◌, ◌-◌, ◌≤◌, ◌<◌, length, sym, ◌∙◌, arith}
+use Rattle.hashing.proofs.HashTables.{room}
 use Rattle.hashing.proofs.Parts.{words_left, words_before_first, words_before_more}
 use Rattle.hashing.specs.Parts.{words_of}
 use Rattle.lexicon.proofs.Members.{distinct_of}
@@ -14,6 +15,7 @@ loop-first-init c =
       rw c.word_start-from.ensures (begins list.letters.table.now list.bytes.now 0 (omega arith)),
       rw c.word_start-from.ensures (words_before_first list.letters.table.now list.bytes.now),
       λ i j (h : i < 0) l m q. omega arith,
+      c.requires,
     )
 
 pub hash_part-behind-requires : goal.hash_part-behind-requires
@@ -21,7 +23,7 @@ hash_part-behind-requires c =
     let list = c.args.list.now in
     let loop = c.loop-first in
     let l = words_left list.letters.table.now list.bytes.now loop.from loop.first loop.invariant.2 in
-    (loop.invariant.1, omega (arith, c.min-count.ensures), omega (arith, c.min-count.ensures, l, list.counted))
+    (loop.invariant.1, omega (arith, c.min-count.ensures), omega (arith, c.min-count.ensures, l, list.counted), loop.invariant.4)
 
 pub is_part_unrepeated-requires : goal.is_part_unrepeated-requires
 is_part_unrepeated-requires c =
@@ -54,6 +56,7 @@ loop-first-preserved c =
       words_before_more list.letters.table.now list.bytes.now loop.from loop.first c.hash_part-behind.result count loop.invariant.2 hashed.2,
       unrepeated_more list.letters.table.now list.bytes.now loop.from loop.first loop.invariant.2 count left all few
           (sym c.is_part_unrepeated.ensures ∙ c.if-not-is_part_unrepeated.false) loop.invariant.3,
+      room list.letters.table.now list.bytes.now loop.from _ _ _ _ hashed.0,
     )
 
 pub returns : goal.returns

@@ -20,8 +20,8 @@ find_from-later-requires c =
     let started = p.hashed.begun.start word c.loop-word-test.true in (
       started.0,
       omega (arith, e, next_in_most table list p.from p.count b (suc word) c.loop-word-test.true),
-      λ (h : 0 < get_or p.slots.now.links word 0).
-          next_in_bucket table list p.from p.count b (suc word) (get_or p.slots.now.links word 0 - 1) (omega (arith, e, h)) ∙ ap bucket_of (sym started.1),
+      λ (h : 0 < get_or p.links.now word 0).
+          next_in_bucket table list p.from p.count b (suc word) (get_or p.links.now word 0 - 1) (omega (arith, e, h)) ∙ ap bucket_of (sym started.1),
     )
 
 -- the first later word that is alike
@@ -36,7 +36,7 @@ found_of c =
     let list = p.list.now.bytes.now in
     let word = c.loop-word.word in
     c.find_from-later.ensures
-    ∙ ap (λ (w : List ℕ). index_from table list p.from p.count w (get_or p.slots.now.links word 0)) (p.hashed.begun.start word c.loop-word-test.true).1
+    ∙ ap (λ (w : List ℕ). index_from table list p.from p.count w (get_or p.links.now word 0)) (p.hashed.begun.start word c.loop-word-test.true).1
     ∙ ap (index_from table list p.from p.count (spelled_at table list p.from word)) (p.hashed.chained.linked.link word (omega arith) c.loop-word-test.true)
 
 pub returns-then-is_some : goal.returns-then-is_some

@@ -1,5 +1,6 @@
 -- `lookup::count_listed` meets its contract. Assumes nothing.
 use Rattle.std.proofs.Common.{◌+◌, ◌≤◌, length, take, sym, arith, length-take}
+use Rattle.hashing.proofs.HashTables.{room}
 use Rattle.hashing.proofs.Parts.{words_left, words_before_first, words_before_more}
 use Rattle.hashing.specs.Parts.{words_of}
 use Rattle.lookup.proofs.Listed.{count_parts, listed_most, listed_none}
@@ -14,6 +15,7 @@ loop-first-init c =
       rw c.word_start-from.ensures (begins list.letters.table.now list.bytes.now 0 (omega arith)),
       rw c.word_start-from.ensures (words_before_first list.letters.table.now list.bytes.now),
       sym (listed_none (take c.args.size (words_at list.letters.table.now c.args.text.now c.args.at))),
+      c.requires.3,
     )
 
 pub hash_part-behind-requires : goal.hash_part-behind-requires
@@ -21,7 +23,7 @@ hash_part-behind-requires c =
     let list = c.args.list.now in
     let loop = c.loop-first in
     let l = words_left list.letters.table.now list.bytes.now loop.from loop.first loop.invariant.2 in
-    (loop.invariant.1, omega (arith, c.min-count.ensures), omega (arith, c.min-count.ensures, l, list.counted))
+    (loop.invariant.1, omega (arith, c.min-count.ensures), omega (arith, c.min-count.ensures, l, list.counted), loop.invariant.4)
 
 pub overflow_add-found : goal.overflow_add-found
 overflow_add-found c =
@@ -55,4 +57,5 @@ loop-first-preserved c =
         c.count_found-found.ensures,
         count_parts list.letters.table.now list.bytes.now loop.from loop.first loop.invariant.2 c.min-count.result inside c.requires.0 (take c.args.size ws),
       ),
+      room list.letters.table.now list.bytes.now loop.from _ _ _ _ hashed.0,
     )

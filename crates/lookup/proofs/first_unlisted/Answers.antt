@@ -1,6 +1,7 @@
 -- `lookup::first_unlisted` meets its contract. Assumes nothing.
 use Rattle.std.proofs.Common.{◌≡◌, ℕ, ◌-◌, ◌/◌, ◌≤◌, ◌<◌, List, length, take, sym, ◌∙◌, ap, arith, length-drop}
 use Rattle.std.proofs.Math.ListN.{drop_of_length-le}
+use Rattle.hashing.proofs.HashTables.{room_stays}
 use Rattle.hashing.specs.Parts.{words_of}
 use Rattle.lexicon.specs.Reading.{TextWord, text_words}
 use Rattle.lookup.proofs.Listed.{missing_behind, missing_here, missing_split, some_missing}
@@ -14,7 +15,7 @@ count_listed-requires c =
     let table = c.args.list.now.letters.table.now in
     let text = c.args.text.now in
     let whole = ap (words_at table text) c.word_start-at.ensures ∙ sym (words_first table text) in
-    (c.requires.0, rw c.word_start-at.ensures (begins table text 0 (omega arith)), omega (arith, c.requires.1, ap length whole))
+    (c.requires.0, rw c.word_start-at.ensures (begins table text 0 (omega arith)), omega (arith, c.requires.1, ap length whole), c.requires.2)
 
 pub returns-then-count_listed-size : goal.returns-then-count_listed-size
 returns-then-count_listed-size c =
@@ -38,6 +39,7 @@ loop-left-init c =
       omega (arith, c.requires.1, ap length whole),
       ap (first_missing (words_of c.args.list.now) (length text)) whole,
       λ q. c.if-count_listed-size.false (c.count_listed.ensures ∙ q),
+      room_stays c.requires.2 c.count_listed.auto.heads c.count_listed.auto.links c.count_listed.auto.starts,
     )
 
 pub loop-left-preserved-then-count_listed-half : goal.loop-left-preserved-then-count_listed-half
@@ -54,6 +56,7 @@ loop-left-preserved-then-count_listed-half c =
       ap (first_missing words (length text)) m ∙ sym (missing_behind words (length text) (loop.left / 2) ws h e) ∙ loop.invariant.2,
       λ q. missing_split words ws loop.left (loop.left / 2) (omega arith) e loop.invariant.3
           (ap (λ (vs : List TextWord). count_listed words (take (loop.left - loop.left / 2) vs)) (sym m) ∙ q),
+      room_stays loop.invariant.4 c.count_listed-in-loop-left.auto.heads c.count_listed-in-loop-left.auto.links c.count_listed-in-loop-left.auto.starts,
     )
 
 pub returns : goal.returns

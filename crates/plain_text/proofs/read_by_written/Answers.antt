@@ -1,5 +1,5 @@
 -- `plain_text::read_by_written` meets its contract: a word twice, then a word that is not listed, then the ranks. Assumes nothing.
-use Rattle.std.proofs.Common.{ℕ, List, refl, sym, ◌∙◌, ap, arith}
+use Rattle.std.proofs.Common.{ℕ, List, refl, sym, ◌∙◌, ap, arith, rules}
 use Rattle.base.specs.Answers.{accepted, refused, refused_at, front}
 use Rattle.base.specs.Refusals.{refusal_word_list, refusal_unlisted}
 use Rattle.lexicon.proofs.Calls.{read_text_refused, read_text_accepted}
@@ -30,6 +30,7 @@ write_ranks-requires c =
       all_rankable list.letters.table.now list.bytes.now list.size c.args.text.now c.args.size c.args.ranks.now c.requires
           (sym c.is_distinct.ensures ∙ c.if-not-is_distinct.false) (omega (arith, none.0)),
       omega (arith, c.requires.sized, c.requires.room),
+      record { heads_long = search rules; links_long = search rules; starts_long = search rules },
     )
 
 pub returns : goal.returns

@@ -1,5 +1,6 @@
 -- `ranking::write_ranks` meets its contract. Assumes nothing.
 use Rattle.std.proofs.Common.{◌+◌, ◌≤◌, length, arith}
+use Rattle.hashing.proofs.HashTables.{room}
 use Rattle.hashing.proofs.Parts.{words_left, words_before_first, words_before_more}
 use Rattle.hashing.specs.Parts.{words_of}
 use Rattle.lexicon.specs.Reading.{text_words, spellings}
@@ -14,6 +15,7 @@ loop-first-init c =
       rw c.word_start-from.ensures (begins list.letters.table.now list.bytes.now 0 (omega arith)),
       rw c.word_start-from.ensures (words_before_first list.letters.table.now list.bytes.now),
       ranks_none (words_of list) (text_words list.letters.table.now c.args.text.now) c.args.ranks.now,
+      c.requires.2,
     )
 
 pub hash_part-behind-requires : goal.hash_part-behind-requires
@@ -21,7 +23,7 @@ hash_part-behind-requires c =
     let list = c.args.list.now in
     let loop = c.loop-first in
     let l = words_left list.letters.table.now list.bytes.now loop.from loop.first loop.invariant.2 in
-    (loop.invariant.1, omega (arith, c.min-count.ensures), omega (arith, c.min-count.ensures, l, list.counted))
+    (loop.invariant.1, omega (arith, c.min-count.ensures), omega (arith, c.min-count.ensures, l, list.counted), loop.invariant.4)
 
 pub loop-first-preserved : goal.loop-first-preserved
 loop-first-preserved c =
@@ -35,6 +37,7 @@ loop-first-preserved c =
       words_before_more list.letters.table.now list.bytes.now loop.from loop.first c.hash_part-behind.result count loop.invariant.2 hashed.2,
       ranks_more list.letters.table.now list.bytes.now loop.from loop.first count loop.invariant.2 inside c.requires.0.once
           (text_words list.letters.table.now c.args.text.now) c.args.ranks.now loop.ranks _ loop.invariant.3 c.write_found.ensures,
+      room list.letters.table.now list.bytes.now loop.from _ _ _ _ hashed.0,
     )
 
 pub returns : goal.returns

@@ -1,12 +1,12 @@
--- `hashing::slots::Slots::note_starts` meets its contract. Assumes nothing.
+-- `hashing::making::note_starts` meets its contract. Assumes nothing.
 use Rattle.std.proofs.Common.{◌<◌, length, sym, ◌∙◌, ap, arith}
 use Rattle.hashing.proofs.HashTables.{bucket_below, starts_more, buckets_more, spelled_here}
 use Rattle.scanning.proofs.Scans.{next_left, left_next}
 use Rattle.scanning.specs.Scans.{words_at, run_at, start_from, bucket_of}
-use Rattle.hashing.proofs.slots.Slots.note_starts.Goals as goal
+use Rattle.hashing.proofs.making.note_starts.Goals as goal
 
-pub overflow_cast-self : goal.overflow_cast-self
-overflow_cast-self c =
+pub overflow_cast-buckets : goal.overflow_cast-buckets
+overflow_cast-buckets c =
     omega (arith, c.scan_word-scan.ensures.1, bucket_below (run_at c.args.letters.now.table.now c.args.list.now c.loop-word.at))
 
 pub word_start-at-requires : goal.word_start-at-requires
@@ -28,9 +28,8 @@ loop-word-preserved c =
     let n = next_left table list from loop.at loop.word loop.invariant.2 loop.invariant.3 h in
     let e = spelled_here table list from loop.at loop.word _ loop.invariant.3 n.words in
     let stepped = c.word_start-at.ensures ∙ ap (start_from table list) c.scan_word-scan.ensures.0 in (
-      starts_more table list from loop.word loop.self.starts loop.at loop.invariant.0 (omega (arith, c.requires.1)) loop.invariant.2.inside (sym e),
-      buckets_more table list from loop.word loop.self.links c.scan_word-scan.result.bucket loop.invariant.1 (omega (arith, c.requires.1)) (c.scan_word-scan.ensures.1 ∙ ap bucket_of (sym e)),
+      starts_more table list from loop.word loop.starts loop.at loop.invariant.0 (omega (arith, c.requires.1)) loop.invariant.2.inside (sym e),
+      buckets_more table list from loop.word loop.buckets c.scan_word-scan.result.bucket loop.invariant.1 (omega (arith, c.requires.1)) (c.scan_word-scan.ensures.1 ∙ ap bucket_of (sym e)),
       rw stepped n.begun,
       ap (words_at table list) stepped ∙ left_next (words_at table list from) _ _ _ loop.word loop.invariant.3 n.words,
-      loop.invariant.4,
     )

@@ -2,12 +2,11 @@
 use Rattle.std.proofs.Common.{◌≡◌, drop}
 use Rattle.hashing.specs.HashTables.{Starts, Buckets}
 use Rattle.scanning.specs.Scans.{words_at, WordBegins}
-use Rattle.hashing.proofs.slots.Slots.note_starts.Given as goal
+use Rattle.hashing.proofs.making.note_starts.Given as goal
 
 abbrev pub invariant-loop-word : goal.invariant-loop-word
 invariant-loop-word l =
-    Starts l.letters.table.now l.list l.from l.word l.self.starts
-    × Buckets l.letters.table.now l.list l.from l.word l.self.links
+    Starts l.letters.table.now l.list l.from l.word l.starts
+    × Buckets l.letters.table.now l.list l.from l.word l.buckets
     × WordBegins l.letters.table.now l.list l.at
     × (words_at l.letters.table.now l.list l.at ≡ drop l.word (words_at l.letters.table.now l.list l.from))
-    × (l.self.heads ≡ l.fn.self.heads)
