@@ -96,6 +96,18 @@ impl Sought<'_> {
         Progress { read, left }
     }
 
+    // Reads eight bytes, or on to the next occurrence of the byte, which is not past the one sought.
+    fn read_eight(&self, from: usize) -> ControlFlow<usize, usize>
+        requires { (from + 8 ≤ length self.now.block.now) × (count_of self.now.byte (take from self.now.block.now) ≤ self.now.j) }
+        ensures { Looked self.now.byte from self.now.block.now result × ForContinue result (λ read. read ≡ from + 8) }
+    {
+        let mut read = from;
+        for _ in 0..8usize {
+            read = self.read_byte(read)?;
+        }
+        ControlFlow::Continue(read)
+    }
+
     // Reads on to the next occurrence of the byte, which is not past the one sought, or until fewer than
     // eight bytes are left: eight tests a turn.
     fn read_eights(&self, from: usize) -> ControlFlow<usize, usize>
@@ -104,9 +116,7 @@ impl Sought<'_> {
     {
         let mut read = from;
         while 8 <= self.block.len() - read {
-            for _ in 0..8usize {
-                read = self.read_byte(read)?;
-            }
+            read = self.read_eight(read)?;
         }
         ControlFlow::Continue(read)
     }

@@ -1,7 +1,6 @@
--- The next byte of the eight is there, and is not past the occurrence.
+-- Eight bytes more are there, and the next occurrence is not past the one sought.
 use Rattle.std.proofs.Common.{arith}
-use Rattle.block_scan.proofs.Looks.{clear_before}
 use Rattle.block_scan.proofs.Sought.read_eights.Goals as goal
 
-pub read_byte-requires : goal.read_byte-requires
-read_byte-requires c = (omega arith, clear_before c.args.self.now.j c.loop.invariant.2 c.requires.1)
+pub read_eight-requires : goal.read_eight-requires
+read_eight-requires c = (omega arith, omega (arith, c.loop-read.invariant.none, c.requires.1))
