@@ -57,18 +57,28 @@ pub fn node_row(counted: &CountedBytes, start: usize, end: usize) -> [u32; 256]
 }
 
 // Whether a byte value may stand in a node as often as it does.
-fn value_passes(index: &LentIndex, node: usize, value: u8, count: u32) -> bool
-    requires { Closing index.now.s × (node < max_nodes index.now.s) }
-    ensures { result ≡ value_test index.now.s index.now.shape.vocabulary index.now.lengths.now node value count }
+fn value_passes(
+    s: usize,
+    vocabulary: usize,
+    lengths: &[u32],
+    node: usize,
+    value: u8,
+    count: u32,
+) -> bool
+    requires { Closing s × (node < max_nodes s) }
+    ensures { result ≡ value_test s vocabulary lengths.now node value count }
 {
-    let least = 256 - index.s;
+    let least = 256 - s;
     let byte = usize::from(value);
     if least <= byte {
-        return count == 0 || index.s * node + (byte - least) < index.shape.vocabulary;
+        if count == 0 {
+            return true;
+        }
+        return s * node + (byte - least) < vocabulary;
     }
-    let child = tree::child(index.s, node, value);
-    if child < index.lengths.len() {
-        return count == index.lengths[child];
+    let child = tree::child(s, node, value);
+    if child < lengths.len() {
+        return count == lengths[child];
     }
     count == 0
 }
@@ -85,9 +95,10 @@ fn node_passes(
     requires { Closing index.now.s × (node < max_nodes index.now.s) × (start ≤ end) × (end ≤ length counted.now.bytes.now) }
     ensures { result ≡ node_passes index.now.s index.now.shape.vocabulary index.now.lengths.now node (take (end - start) (drop start counted.now.bytes.now)) }
 {
+    let (s, vocabulary, lengths) = (index.s, index.shape.vocabulary, index.lengths);
     let counts = node_row(counted, start, end);
-    for (value, count) in counts.iter().enumerate() {
-        if !value_passes(index, node, value as u8, *count) {
+    for value in 0..256usize {
+        if !value_passes(s, vocabulary, lengths, node, value as u8, counts[value]) {
             return false;
         }
     }
