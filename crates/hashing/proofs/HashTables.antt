@@ -110,6 +110,10 @@ bucket_below w = go 0 w (omega arith)
     go h [] l = l
     go h (x ∷ xs) l = go ((h * 40503 + x) % buckets) xs (omega arith)
 
+-- the slices in which a hash table is have room for one
+pub room_of : {table list : List ℕ} {from k : ℕ} {heads links starts : List ℕ} → HashTable table list from k heads links starts → Room heads links starts
+room_of h = record { heads_long = h.chained.heads_long; links_long = h.chained.linked.long; starts_long = h.begun.long }
+
 -- slices as long as those with room have room
 pub room_stays : {heads links starts hs ls ss : List ℕ} → Room heads links starts → length hs ≡ length heads → length ls ≡ length links → length ss ≡ length starts → Room hs ls ss
 room_stays r h l s = record { heads_long = h ∙ r.heads_long; links_long = l ∙ r.links_long; starts_long = s ∙ r.starts_long }
@@ -236,10 +240,6 @@ module _ (table list : List ℕ) (from : ℕ) where
   chains_more k (suc p) heads links b c h m few e =
       let q : suc p - 1 ≡ p = omega arith in
       rw q (chains_front k p heads links b c m few (e ∙ ap (λ (j : ℕ). bucket_of (spelled_at table list from j)) q))
-
-  -- the slices in which it is have room for one
-  pub room : (k : ℕ) (heads links starts : List ℕ) → HashTable table list from k heads links starts → Room heads links starts
-  room k heads links starts h = record { heads_long = h.chained.heads_long; links_long = h.chained.linked.long; starts_long = h.begun.long }
 
   -- where no word begins is noted yet
   pub starts_none : (starts : List ℕ) → length starts ≡ max_part → Starts table list from 0 starts

@@ -49,8 +49,8 @@ fn chain(
     }
 }
 
-// Makes the hash table of so many words from an offset of a list on. Returns where the word behind
-// them begins.
+// Makes the hash table of so many words from an offset of a list on, in room for one, whatever it
+// holds. Returns where the word behind them begins.
 pub fn hash_part(
     letters: &Letters,
     list: &[u8],

@@ -86,7 +86,8 @@ fn is_part_unrepeated(part: &Part, size: usize) -> bool
     is_part_distinct(part) && is_unrepeated(part, size)
 }
 
-// Whether no word of a list is there twice, part by part, in a hash table that is lent.
+// Whether no word of a list is there twice, part by part. What is lent is room for a hash table,
+// whatever it holds.
 pub fn is_distinct(
     list: &WordList,
     heads: &mut [u32],

@@ -31,8 +31,8 @@ fn count_found(part: &Part, text: &[u8], at: usize, size: usize) -> usize
     found
 }
 
-// How many of so many words of a text from a position on are in a list, part by part, in a hash table
-// that is lent.
+// How many of so many words of a text from a position on are in a list, part by part. What is lent is
+// room for a hash table, whatever it holds.
 pub fn count_listed(
     list: &WordList,
     heads: &mut [u32],
@@ -76,7 +76,7 @@ pub fn count_listed(
 }
 
 // The offset of the first word of a text of so many words that is not in a list. A range that has such a
-// word is halved until it is that word.
+// word is halved until it is that word. What is lent is room for a hash table.
 pub fn first_unlisted(
     list: &WordList,
     heads: &mut [u32],

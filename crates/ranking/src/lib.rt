@@ -28,7 +28,7 @@ fn write_found(part: &Part, first: usize, text: &[u8], size: usize, ranks: &mut 
 }
 
 // Writes the ranks of the words of a text, all of them listed, to the front of a slice, part by
-// part, in a hash table that is lent. The rest stays.
+// part. The rest stays. What is lent besides is room for a hash table, whatever it holds.
 pub fn write_ranks(
     list: &WordList,
     heads: &mut [u32],

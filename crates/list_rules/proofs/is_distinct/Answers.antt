@@ -1,6 +1,6 @@
 -- `list_rules::is_distinct` meets its contract. Assumes nothing.
 use Rattle.std.proofs.Common.{◌≡◌, ◌+◌, ◌-◌, ◌≤◌, ◌<◌, length, sym, ◌∙◌, arith}
-use Rattle.hashing.proofs.HashTables.{room}
+use Rattle.hashing.proofs.HashTables.{room_of}
 use Rattle.hashing.proofs.Parts.{words_left, words_before_first, words_before_more}
 use Rattle.hashing.specs.Parts.{words_of}
 use Rattle.lexicon.proofs.Members.{distinct_of}
@@ -56,7 +56,7 @@ loop-first-preserved c =
       words_before_more list.letters.table.now list.bytes.now loop.from loop.first c.hash_part-behind.result count loop.invariant.2 hashed.2,
       unrepeated_more list.letters.table.now list.bytes.now loop.from loop.first loop.invariant.2 count left all few
           (sym c.is_part_unrepeated.ensures ∙ c.if-not-is_part_unrepeated.false) loop.invariant.3,
-      room list.letters.table.now list.bytes.now loop.from _ _ _ _ hashed.0,
+      room_of hashed.0,
     )
 
 pub returns : goal.returns

@@ -1,6 +1,6 @@
 -- `lookup::count_listed` meets its contract. Assumes nothing.
 use Rattle.std.proofs.Common.{◌+◌, ◌≤◌, length, take, sym, arith, length-take}
-use Rattle.hashing.proofs.HashTables.{room}
+use Rattle.hashing.proofs.HashTables.{room_of}
 use Rattle.hashing.proofs.Parts.{words_left, words_before_first, words_before_more}
 use Rattle.hashing.specs.Parts.{words_of}
 use Rattle.lookup.proofs.Listed.{count_parts, listed_most, listed_none}
@@ -57,5 +57,5 @@ loop-first-preserved c =
         c.count_found-found.ensures,
         count_parts list.letters.table.now list.bytes.now loop.from loop.first loop.invariant.2 c.min-count.result inside c.requires.0 (take c.args.size ws),
       ),
-      room list.letters.table.now list.bytes.now loop.from _ _ _ _ hashed.0,
+      room_of hashed.0,
     )

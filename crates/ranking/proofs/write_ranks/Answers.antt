@@ -1,6 +1,6 @@
 -- `ranking::write_ranks` meets its contract. Assumes nothing.
 use Rattle.std.proofs.Common.{◌+◌, ◌≤◌, length, arith}
-use Rattle.hashing.proofs.HashTables.{room}
+use Rattle.hashing.proofs.HashTables.{room_of}
 use Rattle.hashing.proofs.Parts.{words_left, words_before_first, words_before_more}
 use Rattle.hashing.specs.Parts.{words_of}
 use Rattle.lexicon.specs.Reading.{text_words, spellings}
@@ -37,7 +37,7 @@ loop-first-preserved c =
       words_before_more list.letters.table.now list.bytes.now loop.from loop.first c.hash_part-behind.result count loop.invariant.2 hashed.2,
       ranks_more list.letters.table.now list.bytes.now loop.from loop.first count loop.invariant.2 inside c.requires.0.once
           (text_words list.letters.table.now c.args.text.now) c.args.ranks.now loop.ranks _ loop.invariant.3 c.write_found.ensures,
-      room list.letters.table.now list.bytes.now loop.from _ _ _ _ hashed.0,
+      room_of hashed.0,
     )
 
 pub returns : goal.returns
