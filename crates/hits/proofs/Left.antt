@@ -20,13 +20,13 @@ taken P from end None next e a = (hit_none P from end (sym e), rw (a, sub_self e
 taken P from end (Some q) next e a = rw a (hit_first P from end q (sym e))
 
 -- and the search goes on after it
-pub goes_on : (s : Hits) (r : Option Place) (x : Search) → SearchIn s.query.now x → x.way.length ≤ 3 → r ≡ least_hit (is_hit s.query.now) s.search.place.0 s.end.0
+pub goes_on : (s : Hits) (r : Option Place) (x : Search) → SearchIn s.query.now x → r ≡ least_hit (is_hit s.query.now) s.search.place.0 s.end.0
     → x.place.0 ≡ place_after r s.end.0 → MakesProgress IsOn (item_count hits_left) s r (record { query = s.query; search = x; end = s.end })
-goes_on s None x on w e a = record { on = λ h. tt; keeps = tt; rests = λ h. tt }
-goes_on s (Some q) x on w e a =
+goes_on s None x on e a = record { on = λ h. tt; keeps = tt; rests = λ h. tt }
+goes_on s (Some q) x on e a =
     let inside : x.place.0 ≤ s.end.0 = omega (arith, hit_below (is_hit s.query.now) s.search.place.0 s.end.0 q (sym e)) in
     let shorter = ap length (taken (is_hit s.query.now) s.search.place.0 s.end.0 (Some q) x.place.0 e a) in
-    record { on = λ h. ((on, w, inside), tt, omega (arith, shorter)); keeps = (on, w, inside); rests = λ h. tt }
+    record { on = λ h. ((on, inside), tt, omega (arith, shorter)); keeps = (on, inside); rests = λ h. tt }
 
 -- those of which calls have taken some are these and the ones that are left
 pub split : (s t : Hits) (xs : List Place) → Yields (YieldsFirstBy (λ (place : Place). place.0) hits_left) s xs t → hits_left s ≡ map (λ (place : Place). place.0) xs ++ hits_left t

@@ -8,6 +8,6 @@ use Rattle.hits.specs.Queries.{is_hit, SearchIn}
 abbrev pub hits_left : Hits → List ℕ
 hits_left h = hits_between (is_hit h.query.now) h.search.place.0 h.end.0
 
--- its search is one for what is sought, along a way of at most three steps, and is not past the end
+-- its search is one for what is sought, and is not past the end
 abbrev pub IsOn : Hits → Type 0
-IsOn h = SearchIn h.query.now h.search × (h.search.way.length ≤ 3) × (h.search.place.0 ≤ h.end.0)
+IsOn h = SearchIn h.query.now h.search × (h.search.place.0 ≤ h.end.0)

@@ -1,5 +1,5 @@
 -- Searches over a query. Callers hand them on.
-use Rattle.std.specs.Prelude.{ℕ, Bool, List}
+use Rattle.std.specs.Prelude.{ℕ, ◌≤◌, Bool, List}
 use Rattle.index.specs.Lent.{slices_of}
 use Rattle.words.specs.declared.indexed_text.IndexedText.{IndexedText}
 use Rattle.words.specs.Texts.{text_of}
@@ -23,10 +23,14 @@ SidesIn q anchor second = Sides (text_of q.text) q.words.now q.sought anchor sec
 abbrev pub SearchOf : IndexedText → List ℕ → Sought → Search → Type 0
 SearchOf text words sought x = SearchFor text.index.s text.index.shape (slices_of text.index) text.starts.now words sought x
 
--- a search for it
+-- a search for it, along a way whose length is at most three
 abbrev pub SearchIn : Query → Search → Type 0
-SearchIn q x = SearchOf q.text q.words.now q.sought x
+SearchIn q x = SearchOf q.text q.words.now q.sought x × (x.way.length ≤ 3)
 
 -- what a search for it reaches up to an end
+abbrev pub ReachesOf : Query → Search → ℕ → Reached → Type 0
+ReachesOf q x end r = Reaches q.text.index.s q.text.index.shape (slices_of q.text.index) q.text.starts.now q.documents.now q.words.now q.sought x end r
+
+-- the same, with a way whose length is at most three
 abbrev pub ReachesIn : Query → Search → ℕ → Reached → Type 0
-ReachesIn q x end r = Reaches q.text.index.s q.text.index.shape (slices_of q.text.index) q.text.starts.now q.documents.now q.words.now q.sought x end r
+ReachesIn q x end r = ReachesOf q x end r × (r.search.way.length ≤ 3)

@@ -10,15 +10,16 @@ use Rattle.matching.proofs.Queries.{query_searching}
 use Rattle.hits.specs.declared.Search.{Search}
 use Rattle.hits.specs.Hits.{least_hit}
 use Rattle.hits.specs.Searches.{LeastIn}
-use Rattle.hits.specs.Queries.{is_hit, SearchIn}
+use Rattle.hits.specs.Queries.{is_hit, SearchOf}
 use Rattle.hits.proofs.Least.{hit_after}
 use Rattle.hits.proofs.Searches.{anchored_inside, second_back, second_there, reaches}
+use Rattle.hits.proofs.Queries.{reaches_in}
 use Rattle.hits.proofs.Sweeping.{Swept, swept_begin, swept_hit, swept_over, swept_all, swept_next}
 use Rattle.hits.proofs.next_hit.Goals as goal
 use Rattle.hits.proofs.next_hit.Goals.{After-hit_in_part-hit, then-high-until-via-then-high-until, then-high-until-via-else-high-until+then-frequency-track}
 
 -- what is known of the places of a query's hits by a search for it
-module _ (q : Query) (x : Search) (h : SearchIn q x) where
+module _ (q : Query) (x : Search) (h : SearchOf q.text q.words.now q.sought x) where
   anchored : Anchored (text_of q.text) x.rank x.anchor (is_hit q)
   anchored = rw h.rank_is (anchored_inside q.documents.now (text_of q.text) q.words.now q.sought (get_or q.words.now x.anchor 0) x.anchor h.sides.anchored)
 
@@ -96,9 +97,11 @@ pub returns-in-Some : goal.returns-in-Some
 returns-in-Some c =
     let p = (goal.at.returns-in-Some c).After-hit_in_part-hit in
     let least = found p c.in-Some.place c.in-Some.ensures in
+    let reached =
     reaches c.args.search.now c.requires.0 _ _ _ _ _ _ c.moved_to.ensures (sym least) c.loop-place.invariant.tracked
     (λ r g f. c.loop-place.invariant.swept.passed r (omega (arith, hit_after (is_hit c.args.query.now) c.args.search.now.place.0 c.args.end.0 c.in-Some.place least)) f)
-    refl
+    refl in
+    (reached, reaches_in c.args.query.now reached)
 
 pub returns-then-high-until : goal.returns-then-high-until
 returns-then-high-until c =
@@ -107,9 +110,11 @@ returns-then-high-until c =
       | then-high-until-via-then-high-until w ↦ over p c.in_default.ensures (omega (arith, w.if-high-until.true))
       | then-high-until-via-else-high-until+then-frequency-track w ↦ all p c.in_default.ensures (omega (arith, w.if-high-until.false)) (omega (arith, w.if-frequency-track.true))
     ] in
+    let reached =
     reaches c.args.search.now c.requires.0 _ _ _ _ _ _ c.moved_to-then-high-until.ensures (sym least) c.loop-place.invariant.tracked
     (λ r g f. c.loop-place.invariant.swept.passed r (omega (arith, c.requires.1)) f)
-    refl
+    refl in
+    (reached, reaches_in c.args.query.now reached)
 
 pub loop-place-preserved : goal.loop-place-preserved
 loop-place-preserved c =

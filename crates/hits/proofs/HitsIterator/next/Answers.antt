@@ -7,9 +7,10 @@ pub returns-clause-steps : goal.returns-clause-steps
 returns-clause-steps c =
     let s = c.args.self.now in
     let r = c.next_hit-reached in
-    taken (is_hit s.query.now) s.search.place.0 s.end.0 r.result.hit r.result.search.place.0 r.ensures.hit_is r.ensures.place_is
+    taken (is_hit s.query.now) s.search.place.0 s.end.0 r.result.hit r.result.search.place.0 r.ensures.0.hit_is r.ensures.0.place_is
 
 pub returns-clause-goes : goal.returns-clause-goes
 returns-clause-goes c =
     let r = c.next_hit-reached in
-    goes_on c.args.self.now r.result.hit r.result.search r.ensures.search_is (rw r.ensures.way_is c.requires.1) r.ensures.hit_is r.ensures.place_is
+    let reached = r.ensures.1 c.requires.0 in
+    goes_on c.args.self.now r.result.hit r.result.search (reached.0.search_is, reached.1) reached.0.hit_is reached.0.place_is
